@@ -1,8 +1,10 @@
--- The meaning of document 01, on bytes. Read from the top: each file rests on those above it.
+-- The meaning of document 01, on bytes. Read from the top: each file rests on those above it. A name in camelCase is a definition, one
+-- in kebab-case a fact, also where it is a field of a record.
 pub mod Bytes
 pub mod Limits
 pub mod Names
 pub mod Spec
+pub mod Buffers
 pub mod Instruction
 pub mod Prefix
 pub mod Number
@@ -12,5 +14,9 @@ pub mod Match
 pub mod Listing
 pub mod Validation
 pub mod Entries
+pub mod View
 pub mod Deliveries
+pub mod Everything
 pub mod Table
+pub mod Samples
+pub mod BufferSamples

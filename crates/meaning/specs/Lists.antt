@@ -1,4 +1,5 @@
--- Reading spec lists and item lists: the questions in order, each record in turn.
+-- Reading spec lists and item lists: the questions in order, each record in turn. The cursor that walks a list, and its answer at or
+-- past the end, are the code's: crate `list`.
 use Prim.Native.Nat.{ℕ, zero, suc}
 use mathlib.Core.Bool.{Bool, true, false, cond}
 use mathlib.Core.List.{List, [], _∷_}
@@ -20,7 +21,8 @@ abbrev pub recordThen : {A : Type 0} → ℕ → Step A → (Text → Answer (Li
 recordThen i (took a rest) read = withFirst a (read rest)
 recordThen i (no n) read = refused n (some i)
 
--- the records of a text from number i on; each takes a byte at least, so as many steps as there are bytes are enough
+-- the records of a text from number i on. The count of steps only makes this end: each record takes a byte, and `promises` shows
+-- that with no count in it a list is read record by record (RecordByRecord)
 abbrev pub recordsFrom : {A : Type 0} → (ℕ → Reader A) → ℕ → ℕ → Text → Answer (List A)
 recordsFrom one zero i [] = accepted []
 recordsFrom one zero i (x ∷ s) = refused 13 (some i)

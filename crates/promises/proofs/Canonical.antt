@@ -10,67 +10,21 @@ use borrow.Author.Tests.{lt-ltb, ltb-true, le-leb, leb-true, eq-eqb, eqb-true, n
 use lib.Dec.{eqb, leb, ltb, lit<}
 use lib.ListN.{length, length-append}
 use Rattle.meaning.specs.Bytes.{Text, bytes, star, plus, colon, caret, _and_, _or_, any, every, empty, same, begins, keep, each, numberedFrom, numbered, hasByte, given, present, absent, ifGiven}
-use Rattle.meaning.specs.Names.{noControls, ruleFourByte, notAt, partsPass, noTwoDots, noGlobs, slashesPass, noLastDot, noAtBrace, noBackslash, namePasses, starAsLetter, sidePasses}
+use Rattle.meaning.specs.Names.{noControls, ruleFourByte, notAt, partsPass, noTwoDots, noGlobs, slashesPass, noLastDot, noAtBrace, noBackslash, namePasses, starAsA, starAsLetter, sidePasses}
 use Rattle.meaning.specs.Spec.{Answer, accepted, refused, _else_then_, Mode, Normal, Force, Negative, Spec, isNegative, push, modeOfByte, modeOf, signOff, unsigned, Sides, one, two, sidesNext, sidesOf, hasColon, left, right, supplied, named, sourceOf, specFrom, specOf, atMostOneStar, exempt, notHashLike, starsAgree, hasStar, sidesRefusal, specRefusal, unless, readSpec}
 use Rattle.meaning.specs.Instruction.{instruction, canonicalText}
 use Rattle.meaning.specs.Bytes.{In, here, there}
 use Rattle.meaning.specs.Number.{textBytes, recordBytes, Step, took, no, readText}
 use Rattle.meaning.specs.Lists.{readList, specRecord, readSpecs}
 use Rattle.meaning.specs.Rows.{Row, readRows}
-use Rattle.meaning.specs.Match.{forward, reverse}
-use Rattle.meaning.specs.Listing.{excludes, stays, objectRowOf, objectRows, nameRow, reverseRow, unlessNegative, nameRows, forwardRows, sourceRows, reverseRows}
-use Rattle.meaning.specs.Entries.{validation, matchLhs, matchRhs, validated}
-use Rattle.promises.specs.Demands.{canonicalTexts, canonicalList, textFits, noPlus, SameMeaning, CanonicalTextsChangeNothing}
+use Rattle.meaning.specs.Match.{objectSource, forward, reverse}
+use Rattle.meaning.specs.Listing.{Ends, forwardEnds, reverseEnds, nameRow, nameRows, groupRows, objectRows, excludes, notExcluded, forwardRows, reverseRows}
+use Rattle.meaning.specs.Entries.{verdictOn, matchLhs, matchRhs, validated}
+use Rattle.promises.specs.Terms.{canonicalTexts, canonicalList, textFits, noPlus, SameMeaning}
+use Rattle.promises.specs.Demands.{CanonicalTextsChangeNothing}
 use Rattle.promises.proofs.Laws.{and-left, and-right, and-both, or-cases, or-right, or-none, every-in, same-is}
-use Rattle.promises.proofs.Reading.{read-text, number-long, records-read}
-use Rattle.promises.proofs.ReadBack.{group-count, group-texts}
-
--- what the questions of an accepted spec said
-
-asked : (b : Bool) (n rest : ℕ) → 0 < n → (b else n then rest) ≡ 0 → (b ≡ true) × (rest ≡ 0)
-asked true n rest h e = (refl, e)
-asked false n rest h e = absurd (omega arith)
-
-pub record Passed (op : ℕ) (withColon : Bool) (s : Spec) : Type 0 where
-  pub three : not (isNegative (s .mode) and withColon) ≡ true
-  pub four : not (push op and withColon and present (s .source) and absent (s .destination)) ≡ true
-  pub five : ifGiven atMostOneStar (s .source) ≡ true
-  pub six : (exempt op s or ifGiven sidePasses (s .source)) ≡ true
-  pub seven : ifGiven atMostOneStar (s .destination) ≡ true
-  pub eight : ifGiven sidePasses (s .destination) ≡ true
-  pub nine : starsAgree op s ≡ true
-  pub ten : (not (isNegative (s .mode)) or present (s .source)) ≡ true
-  pub eleven : (not (isNegative (s .mode)) or ifGiven notHashLike (s .source)) ≡ true
-
-passed : (op : ℕ) (c : Bool) (s : Spec) → sidesRefusal op c s ≡ 0 → Passed op c s
-unfolding sidesRefusal
-passed op c s e =
-    let a3 = asked _ 3 _ (lit< tt) e in
-    let a4 = asked _ 4 _ (lit< tt) (a3 .1) in
-    let a5 = asked _ 5 _ (lit< tt) (a4 .1) in
-    let a6 = asked _ 6 _ (lit< tt) (a5 .1) in
-    let a7 = asked _ 7 _ (lit< tt) (a6 .1) in
-    let a8 = asked _ 8 _ (lit< tt) (a7 .1) in
-    let a9 = asked _ 9 _ (lit< tt) (a8 .1) in
-    let a10 = asked _ 10 _ (lit< tt) (a9 .1) in
-    let a11 = asked _ 11 _ (lit< tt) (a10 .1) in
-    record { three = a3 .0; four = a4 .0; five = a5 .0; six = a6 .0; seven = a7 .0; eight = a8 .0; nine = a9 .0; ten = a10 .0; eleven = a11 .0 }
-
-pass : (op : ℕ) (c : Bool) (s : Spec) → Passed op c s → sidesRefusal op c s ≡ 0
-unfolding sidesRefusal
-pass op c s p = rw (p .three, p .four, p .five, p .six, p .seven, p .eight, p .nine, p .ten, p .eleven)
-
-unless-accepted : {A : Type 0} (n : ℕ) (a : A) {b : A} → unless n a ≡ accepted b → (n ≡ 0) × (a ≡ b)
-unless-accepted zero a e = (refl, cc)
-unless-accepted (suc n) a e = absurd (let z : _≡_ {A = ℕ} 0 1 = cc in omega arith)
-
--- an accepted fetch spec passed its questions
-pub read-passed : (t : Text) (s : Spec) → readSpec 0 t ≡ accepted s → (specOf 0 t ≡ s) × Passed 0 (hasColon (sidesOf (unsigned t))) (specOf 0 t)
-unfolding readSpec specRefusal
-read-passed t s e =
-    let u = unless-accepted (specRefusal 0 t) (specOf 0 t) e in
-    let a1 = asked (leb (length t) 4096) 1 (sidesRefusal 0 (hasColon (sidesOf (unsigned t))) (specOf 0 t)) (omega arith) (u .0) in
-    (u .1, passed 0 _ (specOf 0 t) (a1 .1))
+use Rattle.promises.proofs.Members.{group-count, group-texts, specs-written}
+use Rattle.promises.proofs.Accepted.{Passed, pass, ReadPassed, read-passed}
 
 -- a side that passes the name rules
 
@@ -336,39 +290,25 @@ canon-some s src c e p n b h k =
 pub canon : (s : Spec) (t : Text) → readSpec 0 t ≡ accepted s → textFits s ≡ true → noPlus s ≡ true → readSpec 0 (canonicalText 0 s) ≡ accepted (calm s)
 unfolding specOf specFrom
 canon s t e h k =
-    let r = read-passed t s e in
-    let q = source-there t (hasColon (sidesOf (unsigned t))) (r .1) in
-    rw (← r .0) (canon-some (specOf 0 t) (q .0) (hasColon (sidesOf (unsigned t))) (q .1) (r .1) (negative-one t (r .1)) (λ m. normal-plus t (q .0) m (q .1)) (rw (r .0) h) (rw (r .0) k))
+    let r = read-passed 0 t s e in
+    let f = r .spec-is in
+    let p = r .sides in
+    let q = source-there t (hasColon (sidesOf (unsigned t))) p in
+    rw (← f) (canon-some (specOf 0 t) (q .0) (hasColon (sidesOf (unsigned t))) (q .1) p (negative-one t p) (λ m. normal-plus t (q .0) m (q .1)) (rw f h) (rw f k))
 
 -- the list of canonical texts is accepted
 
-each-map : {A B C : Type 0} (f : A → B) (w : B → List C) (l : List A) → each (map f l) w ≡ each l (λ x. w (f x))
-each-map f w [] = refl
-each-map f w (x ∷ l) = ap (λ k. w (f x) ++ k) (each-map f w l)
-
-text-long : (t : Text) → 0 < length (textBytes t)
-unfolding textBytes
-text-long t = omega (arith, length-append (Rattle.meaning.specs.Number.numberBytes (length t)) t, number-long (length t))
-
-spec-record : (j : ℕ) (t : Text) (s : Spec) (rest : Text) → j < 256 → length t < 2097152 → readSpec 0 t ≡ accepted s → specRecord 0 j (textBytes t ++ rest) ≡ took s rest
-unfolding specRecord
-spec-record j t s rest h k e = rw (lt-ltb j 256 h, read-text t rest k, e)
-
 module _ (group : List Spec) (count : length group ≤ 256) (texts : (s : Spec) → In s group → (t : Text) × (readSpec 0 t ≡ accepted s)) (fits : every textFits group ≡ true) (plain : every noPlus group ≡ true) where
-  one-back : (s : Spec) → In s group → (j : ℕ) → j < 0 + length group → (rest : Text) → specRecord 0 j (textBytes (canonicalText 0 s) ++ rest) ≡ took (calm s) rest
+  -- each text of the list is short, and read as the calm spec
+  text-short : (s : Spec) → In s group → length (canonicalText 0 s) ≤ 4096
   unfolding textFits
-  one-back s m j h rest =
-      let t = texts s m in
-      let f = every-in textFits fits m in
-      let l : length (canonicalText 0 s) ≤ 4096 = leb-true _ 4096 f in
-      spec-record j (canonicalText 0 s) (calm s) rest (omega arith) (omega arith) (canon s (t .0) (t .1) f (every-in noPlus plain m))
+  text-short s m = leb-true _ 4096 (every-in textFits fits m)
+
+  one-back : (s : Spec) → In s group → readSpec 0 (canonicalText 0 s) ≡ accepted (calm s)
+  one-back s m = let t = texts s m in canon s (t .0) (t .1) (every-in textFits fits m) (every-in noPlus plain m)
 
   list-back : length (canonicalList group) ≤ 65535 → readSpecs 0 (canonicalList group) ≡ accepted (map calm group)
-  unfolding readSpecs readList recordBytes
-  list-back h =
-      let e : each (canonicalTexts group) textBytes ≡ each group (λ s. textBytes (canonicalText 0 s)) = each-map (canonicalText 0) textBytes group in
-      rw (le-leb (length (each (canonicalTexts group) textBytes)) 65535 h, e)
-      (records-read (specRecord 0) (λ s. textBytes (canonicalText 0 s)) calm group (length (each group (λ s. textBytes (canonicalText 0 s)))) 0 (λ s m. text-long (canonicalText 0 s)) one-back (omega arith))
+  list-back h = specs-written 0 (omega arith) (canonicalText 0) calm group count text-short one-back h
 
 -- the calm group has the same rows
 
@@ -388,9 +328,9 @@ any-map : {A B : Type 0} (f : A → B) (test : B → Bool) (test′ : A → Bool
 any-map f test test′ h [] = refl
 any-map f test test′ h (x ∷ l) = rw (h x, any-map f test test′ h l)
 
-calm-stays : (group : List Spec) (r : Row) → stays (map calm group) r ≡ stays group r
-unfolding stays
-calm-stays group r = rw (any-map calm (excludes (r .source)) (excludes (r .source)) (calm-excludes (r .source)) group)
+calm-excluded : (group : List Spec) (r : Row) → notExcluded (map calm group) r ≡ notExcluded group r
+unfolding notExcluded
+calm-excluded group r = rw (any-map calm (excludes (r .source)) (excludes (r .source)) (calm-excludes (r .source)) group)
 
 keep-same : {A : Type 0} (f g : A → Bool) → ((x : A) → f x ≡ g x) → (l : List A) → keep f l ≡ keep g l
 keep-same f g h [] = refl
@@ -404,38 +344,52 @@ each-same : {A C : Type 0} (w w′ : A → List C) → ((x : A) → w x ≡ w′
 each-same w w′ h [] = refl
 each-same w w′ h (x ∷ l) = rw (h x, each-same w w′ h l)
 
+-- an object row does not change
 calm-objects : (i : ℕ) (s : Spec) → objectRows (i, calm s) ≡ objectRows (i, s)
-unfolding objectRows calm
+unfolding objectRows objectSource calm
 calm-objects i s = rw (calm-negative (s .mode) (s .destination))
 
-calm-names : (names : List Text) (i : ℕ) (s : Spec) → nameRows names (i, calm s) ≡ nameRows names (i, s)
+-- nor do the ends of a row, forward
+calm-forward-ends : (s : Spec) (name : Text) → forwardEnds (calm s) name ≡ forwardEnds s name
+unfolding forwardEnds
+calm-forward-ends s name = rw (calm-forward s name)
+
+-- or in reverse
+calm-reverse-ends : (s : Spec) (name : Text) → reverseEnds (calm s) name ≡ reverseEnds s name
+unfolding reverseEnds reverse calm
+calm-reverse-ends s name = refl
+
+-- so a spec's rows do not change
+calm-names : (make : Spec → Text → Option Ends) → ((s : Spec) (name : Text) → make (calm s) name ≡ make s name) → (names : List Text) (i : ℕ) (s : Spec) → nameRows make names (i, calm s) ≡ nameRows make names (i, s)
 unfolding nameRows
-calm-names names i s =
-    rw (calm-mode s, each-same (λ (m : ℕ × Text). nameRow i (m .0) (m .1) (forward (calm s) (m .1))) (λ m. nameRow i (m .0) (m .1) (forward s (m .1))) (λ m. rw (calm-forward s (m .1))) (numbered names))
+calm-names make h names i s =
+    rw (calm-mode s, each-same (λ (m : ℕ × Text). nameRow i (m .0) (make (calm s) (m .1))) (λ m. nameRow i (m .0) (make s (m .1))) (λ m. rw (h s (m .1))) (numbered names))
 
-calm-sources : (names : List Text) (i : ℕ) (s : Spec) → sourceRows names (i, calm s) ≡ sourceRows names (i, s)
-unfolding sourceRows reverse calm
-calm-sources names i s = rw (calm-negative (s .mode) (s .destination))
+-- nor do a group's
+calm-group : (make : Spec → Text → Option Ends) → ((s : Spec) (name : Text) → make (calm s) name ≡ make s name) → (group : List Spec) (names : List Text) → groupRows make (map calm group) names ≡ groupRows make group names
+calm-group make h group names = each-numbered calm (nameRows make names) (nameRows make names) (calm-names make h names) 0 group
 
+-- the forward rows of the calm group
 calm-forward-rows : (group : List Spec) (names : List Text) → forwardRows (map calm group) names ≡ forwardRows group names
 unfolding forwardRows
 calm-forward-rows group names =
-    rw (each-numbered calm objectRows objectRows calm-objects 0 group, each-numbered calm (nameRows names) (nameRows names) (calm-names names) 0 group)
-    (keep-same (stays (map calm group)) (stays group) (calm-stays group) (each (numbered group) objectRows ++ each (numbered group) (nameRows names)))
+    rw (each-numbered calm objectRows objectRows calm-objects 0 group, calm-group forwardEnds calm-forward-ends group names)
+    (keep-same (notExcluded (map calm group)) (notExcluded group) (calm-excluded group) (each (numbered group) objectRows ++ groupRows forwardEnds group names))
 
+-- and its reverse rows
 calm-reverse-rows : (group : List Spec) (names : List Text) → reverseRows (map calm group) names ≡ reverseRows group names
 unfolding reverseRows
 calm-reverse-rows group names =
-    rw (each-numbered calm (sourceRows names) (sourceRows names) (calm-sources names) 0 group) (keep-same (stays (map calm group)) (stays group) (calm-stays group) (each (numbered group) (sourceRows names)))
+    rw (calm-group reverseEnds calm-reverse-ends group names) (keep-same (notExcluded (map calm group)) (notExcluded group) (calm-excluded group) (groupRows reverseEnds group names))
 
 map-length : (group : List Spec) → length (map calm group) ≡ length group
 map-length [] = refl
 map-length (s ∷ group) = ap suc (map-length group)
 
 module _ (specs specs′ : Text) (group : List Spec) (e : readSpecs 0 specs ≡ accepted group) (e′ : readSpecs 0 specs′ ≡ accepted (map calm group)) where
-  same-validation : (list : Text) → validation 0 specs list ≡ validation 0 specs′ list
-  unfolding validation
-  same-validation list = rw (e, e′, map-length group)
+  same-verdict : (list : Text) → verdictOn 0 specs list ≡ verdictOn 0 specs′ list
+  unfolding verdictOn
+  same-verdict list = rw (e, e′, map-length group)
 
   same-meaning : SameMeaning group (map calm group) specs specs′
   unfolding matchLhs matchRhs validated
@@ -443,13 +397,14 @@ module _ (specs specs′ : Text) (group : List Spec) (e : readSpecs 0 specs ≡ 
       record {
         forward-rows = λ names. sym (calm-forward-rows group names);
         reverse-rows = λ names. sym (calm-reverse-rows group names);
-        validations = same-validation;
+        verdicts = same-verdict;
         forward-entry = λ items. rw (e, e′) (simp (calm-forward-rows group));
         reverse-entry = λ items. rw (e, e′) (simp (calm-reverse-rows group));
-        validate-entry = λ list. rw (same-validation list);
+        validated-entry = λ list. rw (same-verdict list);
       }
 
+-- the fourth statement of demand 3
 pub canonical-texts-change-nothing : CanonicalTextsChangeNothing
 canonical-texts-change-nothing specs group e fits h plain =
-    let e′ = list-back group (group-count specs group e) (group-texts specs group e) fits plain h in
+    let e′ = list-back group (group-count 0 specs group e) (group-texts 0 specs group e) fits plain h in
     (map calm group, e′, same-meaning specs (canonicalList group) group e e′)

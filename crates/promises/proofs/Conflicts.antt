@@ -13,9 +13,10 @@ use Rattle.meaning.specs.Spec.{Answer, accepted, Spec}
 use Rattle.meaning.specs.Bytes.{In, here, there}
 use Rattle.meaning.specs.Lists.{readSpecs}
 use Rattle.meaning.specs.Rows.{Row, readRows}
-use Rattle.meaning.specs.Validation.{differ, destinationOf, listed, isText, onto, rowsOnto, twoDiffer, inConflict, Conflict, conflictOn, conflicts, rowStays, fixOf, Validated, conflicting, passing, passUnless, validate}
-use Rattle.meaning.specs.Entries.{validation}
-use Rattle.promises.specs.Demands.{SameSource, TwoSources, NamesConflict, Passes, ConflictsExactly}
+use Rattle.meaning.specs.Validation.{differ, destinationOf, listed, isText, onto, rowsOnto, twoDiffer, inConflict, Conflict, conflictOn, conflicts, isKept, fixOf, Verdict, conflicting, passing, passUnless, verdict}
+use Rattle.meaning.specs.Entries.{verdictOn, validated}
+use Rattle.promises.specs.Terms.{SameSource, TwoSources, NamesConflict, Passes}
+use Rattle.promises.specs.Demands.{ConflictsExactly}
 use Rattle.promises.proofs.Laws.{and-left, and-right, and-both, same-is, same-refl, same-eq, in-keep, keep-in, in-any, any-in, in-each, in-map, map-in, in-order}
 
 differ-is : (r q : Row) → differ r q ≡ true → SameSource r q → ⊥
@@ -103,14 +104,15 @@ module _ (rows : List Row) where
   none-passes [] e n = tt
   none-passes (c ∷ l) e n = n (c .destination) (two-of-conflict rows c (rw e here))
 
-  pub names-exactly : (d : Text) → NamesConflict (validate rows) d ↔ TwoSources rows d
-  unfolding validate
+  pub names-exactly : (d : Text) → NamesConflict (verdict rows) d ↔ TwoSources rows d
+  unfolding verdict
   names-exactly d = (named-two (conflicts rows) refl d, two-named (conflicts rows) refl d)
 
-  pub passes-exactly : Passes (validate rows) ↔ ((d : Text) → TwoSources rows d → ⊥)
-  unfolding validate
+  pub passes-exactly : Passes (verdict rows) ↔ ((d : Text) → TwoSources rows d → ⊥)
+  unfolding verdict
   passes-exactly = (passes-none (conflicts rows) refl, none-passes (conflicts rows) refl)
 
+-- the first statement of demand 3
 pub conflicts-exactly : ConflictsExactly
-unfolding validation
-conflicts-exactly specs list group rows e f = (validate rows, rw (e, f), names-exactly rows, passes-exactly rows)
+unfolding verdictOn validated
+conflicts-exactly specs list group rows e f = (verdict rows, rw (e, f), names-exactly rows, passes-exactly rows, rw (e, f))

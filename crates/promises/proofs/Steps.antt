@@ -12,7 +12,7 @@ use Rattle.meaning.specs.Spec.{Answer, accepted, refused, Spec, readSpec}
 use Rattle.meaning.specs.Number.{Step, took, no, Reader, stepThen, _>>=_, give, need, groupBefore, readGroups, readNumber, readBytes, readText}
 use Rattle.meaning.specs.Lists.{withFirst, recordThen, recordsFrom, answered, specRecord, itemRecord}
 use Rattle.meaning.specs.Rows.{Row, destinationAfter, readDestination, readRow, rowPasses, rowRecord}
-use Rattle.promises.proofs.ReadBack.{step-took}
+use Rattle.promises.proofs.Members.{step-took}
 
 -- what is left is no longer, or is shorter
 

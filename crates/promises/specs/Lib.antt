@@ -1,2 +1,6 @@
--- Demand 3, stated.
+-- What is promised of the definitions of `meaning`. `Demands`: demand 3, in the words of `Terms`; `Variants`: what would be false.
+-- `Accepted`: what an accepted spec is. `Facts`: what the definitions come to.
+pub mod Accepted
+pub mod Terms
 pub mod Demands
+pub mod Variants
