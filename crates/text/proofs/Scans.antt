@@ -1,0 +1,94 @@
+-- One step of each look through a text: what is left of the text decides as the whole does. Assumes nothing.
+use mathlib.Core.Path.{_≡_, refl, sym, _∙_}
+use mathlib.Core.Bool.{Bool, true, false, not, cond}
+use mathlib.Core.List.{[], _∷_}
+use Prim.Native.Nat.{ℕ, suc, _+_, _-_, _≤_, _<_}
+use native.Mathlib.Nat.{add-zero}
+use native.Mathlib.Omega.{arith}
+use borrow.Author.Tests.{eq-eqb, ne-eqb, not-true, not-false, lt-ltb}
+use lib.Dec.{eqb, ltb, leb·suc-suc}
+use lib.ListN.{length, getD, drop, take}
+use Rattle.meaning.specs.Bytes.{Text, _or_, every, same, begins, holds, hasByte, count}
+use Rattle.text.specs.Place.{firstAt}
+use Rattle.text.proofs.Rests.{rest-cons, rest-end, rest-part}
+
+-- the pattern's byte stands first in the definitions, the text's first in the code
+byte-is : (x b : ℕ) → x ≡ b → eqb b x ≡ true
+byte-is x b e = eq-eqb b x (sym e)
+
+byte-other : (x b : ℕ) → (x ≡ b → ⊥) → eqb b x ≡ false
+byte-other x b n = ne-eqb b x (λ e. n (sym e))
+
+module _ (p s : Text) (i : ℕ) (inv : begins (drop i p) (drop i s) ≡ begins p s) where
+  pub begins-short : i < length p → length s ≤ i → false ≡ begins p s
+  begins-short h l = rw (rest-cons p i h, rest-end s i l) at inv
+
+  pub begins-other : i < length p → i < length s → (getD s i 0 ≡ getD p i 0 → ⊥) → false ≡ begins p s
+  begins-other h l n = rw (rest-cons p i h, rest-cons s i l, byte-other _ _ n) at inv
+
+  pub begins-more : i < length p → i < length s → getD s i 0 ≡ getD p i 0 → begins (drop (i + 1) p) (drop (i + 1) s) ≡ begins p s
+  begins-more h l e = rw (rest-cons p i h, rest-cons s i l, byte-is _ _ e) at inv
+
+  pub begins-done : length p ≤ i → true ≡ begins p s
+  begins-done h = rw (rest-end p i h) at inv
+
+-- a text of no bytes holds only the text of no bytes
+holds-empty : (p : Text) → same p [] ≡ eqb (length p) 0
+holds-empty [] = refl
+holds-empty (a ∷ p) = sym (ne-eqb (suc (length p)) 0 (λ e. omega arith))
+
+module _ (p s : Text) (i : ℕ) (inv : holds p (drop i s) ≡ holds p s) where
+  -- what a look at the part from i says of the rest from i
+  at-part : (r : Bool) → i < length s → r ≡ begins p (take (length s - i) (drop i s)) → begins p (getD s i 0 ∷ drop (i + 1) s) ≡ r
+  at-part r h e = sym (rw (rest-part s i, rest-cons s i h) at e)
+
+  pub holds-here : (r : Bool) → i < length s → r ≡ begins p (take (length s - i) (drop i s)) → r ≡ true → true ≡ holds p s
+  holds-here r h e t = rw (rest-cons s i h, at-part r h e ∙ t) at inv
+
+  pub holds-more : (r : Bool) → i < length s → r ≡ begins p (take (length s - i) (drop i s)) → r ≡ false → holds p (drop (i + 1) s) ≡ holds p s
+  holds-more r h e f = rw (rest-cons s i h, at-part r h e ∙ f) at inv
+
+  pub holds-none : length s ≤ i → eqb (length p) 0 ≡ holds p s
+  holds-none h = sym (holds-empty p) ∙ rw (rest-end s i h) at inv
+
+module _ (test : ℕ → Bool) (s : Text) (i : ℕ) (inv : every test (drop i s) ≡ every test s) where
+  pub every-fails : (r : Bool) → i < length s → r ≡ test (getD s i 0) → not r ≡ true → false ≡ every test s
+  every-fails r h e t = rw (rest-cons s i h, sym e ∙ not-true r t) at inv
+
+  pub every-more : (r : Bool) → i < length s → r ≡ test (getD s i 0) → not r ≡ false → every test (drop (i + 1) s) ≡ every test s
+  every-more r h e f = rw (rest-cons s i h, sym e ∙ not-false r f) at inv
+
+  pub every-done : length s ≤ i → true ≡ every test s
+  every-done h = rw (rest-end s i h) at inv
+
+module _ (s : Text) (from b i : ℕ) (inv : i + firstAt b (drop i s) ≡ from + firstAt b (drop from s)) where
+  pub find-here : i < length s → getD s i 0 ≡ b → i ≡ from + firstAt b (drop from s)
+  find-here h e = sym (add-zero i) ∙ rw (rest-cons s i h, byte-is _ _ e) at inv
+
+  pub find-more : i < length s → (getD s i 0 ≡ b → ⊥) → i + 1 + firstAt b (drop (i + 1) s) ≡ from + firstAt b (drop from s)
+  find-more h n = let g : i + suc (firstAt b (drop (i + 1) s)) ≡ from + firstAt b (drop from s) = rw (rest-cons s i h, byte-other _ _ n) at inv in omega arith
+
+  pub find-none : length s ≤ i → i ≡ from + firstAt b (drop from s)
+  find-none h = sym (add-zero i) ∙ rw (rest-end s i h) at inv
+
+-- a byte stands in the text where its first place is before the end
+byte-first : (b : ℕ) (s : Text) → ltb (firstAt b s) (length s) ≡ hasByte b s
+byte-first b [] = refl
+byte-first b (x ∷ s) = go (eqb b x) (byte-first b s)
+  where
+    go : (here : Bool) → ltb (firstAt b s) (length s) ≡ hasByte b s → ltb (cond here 0 (suc (firstAt b s))) (suc (length s)) ≡ (here or hasByte b s)
+    go true r = lt-ltb 0 (suc (length s)) (omega arith)
+    go false r = leb·suc-suc (suc (firstAt b s)) (length s) ∙ r
+
+pub byte-found : (s : Text) (b n : ℕ) → n ≡ firstAt b s → ltb n (length s) ≡ hasByte b s
+byte-found s b n e = rw e (byte-first b s)
+
+module _ (s : Text) (b n i : ℕ) (inv : n + count b (drop i s) ≡ count b s) where
+  pub count-hit : i < length s → getD s i 0 ≡ b → n + 1 + count b (drop (i + 1) s) ≡ count b s
+  count-hit h e = let g : n + suc (count b (drop (i + 1) s)) ≡ count b s = rw (rest-cons s i h, byte-is _ _ e) at inv in omega arith
+
+  pub count-miss : i < length s → (getD s i 0 ≡ b → ⊥) → n + count b (drop (i + 1) s) ≡ count b s
+  count-miss h e = rw (rest-cons s i h, byte-other _ _ e) at inv
+
+  pub count-done : length s ≤ i → n ≡ count b s
+  count-done h = sym (add-zero n) ∙ rw (rest-end s i h) at inv
