@@ -1,0 +1,43 @@
+-- The number of stars decides which question is asked. Assumes nothing.
+use Rattle.parse.proofs.Reading.{text-plain, text-pattern, text-stars}
+use borrow.Author.Needs.{needs}
+use Rattle.parse.proofs.questions.text_refusal.Statement.{statement}
+use Rattle.parse.proofs.questions.text_refusal.Tie as tie
+use Rattle.parse.proofs.questions.text_refusal.Reads as reads
+use Rattle.parse.proofs.questions.text_refusal.Lts as lts
+use Rattle.parse.proofs.questions.name_refusal.Reads as name-refusal-reads
+use Rattle.parse.proofs.questions.pattern_refusal.Reads as pattern-refusal-reads
+use Rattle.text.proofs.count.Reads as count-reads
+
+add-next : tie.Need-add-next
+add-next c = search needs
+
+count-requires : tie.Need-count-requires
+count-requires c κs = search needs
+
+name-refusal-requires : tie.Need-name-refusal-requires
+name-refusal-requires c κs = search needs
+
+pattern-refusal-requires : tie.Need-pattern-refusal-requires
+pattern-refusal-requires c κs = search needs
+
+returns : tie.Need-returns
+returns c = search text-plain
+
+returns-2 : tie.Need-returns-2
+returns-2 c = search text-pattern
+
+returns-3 : tie.Need-returns-3
+returns-3 c = search text-stars
+
+pub text-refusal-spec : {M : Type 1} → statement M
+text-refusal-spec =
+    tie.close
+    (tie.spec
+    add-next
+    count-requires
+    name-refusal-requires
+    pattern-refusal-requires
+    returns
+    returns-2
+    returns-3)
