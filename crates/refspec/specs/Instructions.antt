@@ -1,0 +1,55 @@
+-- The instruction of a spec as places, and the instruction that it means.
+use Prim.Native.Nat.{ℕ}
+use mathlib.Core.Bool.{Bool, true, false, cond}
+use mathlib.Core.Option.{Option, none, some}
+use Rattle.meaning.specs.Bytes.{Text, orEmpty}
+use Rattle.meaning.specs.Spec.{isNegative, isForce, push}
+use Rattle.meaning.specs.Instruction as meaning
+use Rattle.parse.specs.declared.types.Side.{Side}
+use Rattle.parse.specs.declared.types.RefSpec.{RefSpec}
+use Rattle.refspec.specs.declared.instruction.Instruction.{Instruction}
+use Rattle.refspec.specs.declared.instruction.Instruction.the-variants.{FetchOnly, FetchExclude, FetchAndUpdate, PushAllMatchingBranches, PushDelete, PushMatching, PushExclude}
+use Rattle.parse.specs.declared.Parsed.{Parsed}
+use Rattle.parse.specs.declared.Parsed.the-variants as reading
+use Rattle.refspec.specs.declared.spec.Instructed.{Instructed}
+use Rattle.refspec.specs.declared.spec.Instructed.the-variants as answer
+use Rattle.parse.specs.Places.{modeMeant, sideMeant, isPresent, parsed}
+
+-- a fetch by its sides: no destination is fetch-only
+unfoldable pub fetchPlaces : Bool → Side → Side → Instruction
+fetchPlaces force src dst = cond (isPresent dst) (FetchAndUpdate src dst force) (FetchOnly src)
+
+-- a push by its sides: a source only is its own destination, a destination only is delete, neither is all matching branches
+unfoldable pub pushPlaces : Bool → Side → Side → Instruction
+pushPlaces force src dst =
+    cond (isPresent src) (PushMatching src (cond (isPresent dst) dst src) force)
+    (cond (isPresent dst) (PushDelete dst) (PushAllMatchingBranches force))
+
+-- the instruction of a spec
+unfoldable pub instructionPlaces : ℕ → RefSpec → Instruction
+instructionPlaces op r =
+    cond (isNegative (modeMeant (r .mode))) (cond (push op) (PushExclude (r .src)) (FetchExclude (r .src)))
+    (cond (push op) (pushPlaces (isForce (modeMeant (r .mode))) (r .src) (r .dst)) (fetchPlaces (isForce (modeMeant (r .mode))) (r .src) (r .dst)))
+
+-- the text of a side, no bytes where it is absent
+abbrev pub sideText : Text → Side → Text
+sideText t side = orEmpty (sideMeant t side)
+
+-- the instruction that places mean
+abbrev pub instructionMeant : Text → Instruction → meaning.Instruction
+instructionMeant t (FetchOnly src) = meaning.fetchOnly (sideText t src)
+instructionMeant t (FetchExclude src) = meaning.fetchExclude (sideText t src)
+instructionMeant t (FetchAndUpdate src dst force) = meaning.fetchAndUpdate (sideText t src) (sideText t dst) force
+instructionMeant t (PushAllMatchingBranches force) = meaning.pushAllMatchingBranches force
+instructionMeant t (PushDelete dst) = meaning.pushDelete (sideText t dst)
+instructionMeant t (PushMatching src dst force) = meaning.pushMatching (sideText t src) (sideText t dst) force
+instructionMeant t (PushExclude src) = meaning.pushExclude (sideText t src)
+
+-- an answer of reading, as an instruction
+abbrev pub instructedBy : ℕ → Parsed → Instructed
+instructedBy op (reading.Spec r) = answer.To (instructionPlaces op r)
+instructedBy op (reading.Refused n) = answer.Refused n
+
+-- what a spec instructs
+unfoldable pub instructed : ℕ → Text → Instructed
+instructed op t = instructedBy op (parsed op t)

@@ -1,0 +1,3 @@
+-- `Instructions`: the instruction as places. `Prefixes`: the prefix as a place.
+pub mod Instructions
+pub mod Prefixes
