@@ -1,14 +1,13 @@
 -- Answers and their buffers, computed: success, each kind of refusal, 17 in either buffer, a conflict against a pass.
-use Prim.Native.Nat.{ℕ, suc, _≤_, _*_}
+use Prim.Native.Nat.{ℕ, suc}
 use native.Mathlib.Omega.{arith}
 use mathlib.Core.Path.{_≡_, refl, sym, ap, _∙_}
-use mathlib.Core.List.{List, [], _∷_, _++_}
+use mathlib.Core.List.{List, [], _∷_}
 use mathlib.Core.Option.{Option, none, some}
 use lib.Dec.{lit≤}
-use lib.ListN.{length}
 use Rattle.meaning.specs.Bytes.{Text, bytes}
 use Rattle.meaning.specs.Spec.{Answer, accepted, refused}
-use Rattle.meaning.specs.Buffers.{Written, Outcome, refuses, short, writes, outcome, buffersAfter, Told, Tells, LengthBeside, Meets, MeetsOne}
+use Rattle.meaning.specs.Buffers.{Written, refuses, short, writes, outcome, Told, Tells, LengthBeside, Meets, MeetsOne, MeetsTwo}
 
 -- what is told, written short
 abbrev told : ℕ → Option ℕ → List (Option ℕ) → ℕ → ℕ → Told
@@ -108,5 +107,44 @@ ones = (
     refusal-is = refl;
     record-is = refl;
     size-is = refl;
+  },
+)
+
+-- two buffers, six numbers: a conflict, a pass, and the fix buffer too short
+pub twos :
+    MeetsTwo conflict (bytes "xyz") (bytes "kl") (bytes "abz") (bytes "kl") 0 0 1 2 0 0
+    × MeetsTwo passWithoutFix (bytes "xyz") (bytes "kl") (bytes "abz") (bytes "kl") 0 0 0 2 0 0
+    × MeetsTwo pass (bytes "xyz") [] (bytes "xyz") [] 17 0 0 1 0 2
+twos = (
+  record {
+    told = told 0 none (some 2 ∷ none ∷ []) 0 0;
+    meets = record { buffers-are = refl; tells = record { refusal-is = refl; record-is = refl; lengths-are = refl; buffer-is = refl; beside-is = refl } };
+    refusal-is = refl;
+    record-is = refl;
+    mark-is = refl;
+    size-is = refl;
+    fixes-size-is = refl;
+    buffer-is = refl;
+  },
+  record {
+    told = told 0 none (some 2 ∷ some 0 ∷ []) 0 0;
+    meets = record { buffers-are = refl; tells = record { refusal-is = refl; record-is = refl; lengths-are = refl; buffer-is = refl; beside-is = refl } };
+    refusal-is = refl;
+    record-is = refl;
+    mark-is = refl;
+    size-is = refl;
+    fixes-size-is = refl;
+    buffer-is = refl;
+  },
+  record {
+    told = told 17 none [] 2 1;
+    meets =
+        record { buffers-are = refl; tells = record { refusal-is = refl; record-is = refl; lengths-are = refl; buffer-is = refl; beside-is = record { at-least = lit≤ tt; at-most = lit≤ tt } } };
+    refusal-is = refl;
+    record-is = refl;
+    mark-is = refl;
+    size-is = refl;
+    fixes-size-is = refl;
+    buffer-is = refl;
   },
 )

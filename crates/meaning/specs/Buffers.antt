@@ -1,7 +1,7 @@
 -- How an answer meets its buffers: what every call that writes has in common.
-use Prim.Native.Nat.{ℕ, zero, suc, _≤_, _*_}
+use Prim.Native.Nat.{ℕ, suc, _≤_, _*_}
 use mathlib.Core.Path.{_≡_}
-use mathlib.Core.Bool.{Bool, true, cond}
+use mathlib.Core.Bool.{cond}
 use mathlib.Core.List.{List, [], _∷_, _++_, map}
 use mathlib.Core.Option.{Option, none, some, Option·map}
 use lib.Dec.{leb}
@@ -136,3 +136,29 @@ pub record MeetsOne (a : Answer Written) (entry exit : Text) (refusal recordNumb
   pub refusal-is : refusal ≡ told .refusal
   pub record-is : recordNumber ≡ orZero (told .recordNumber)
   pub size-is : size ≡ oneLength (told .lengths) (told .beside)
+
+-- 1 where the second buffer was left alone: the first holds conflicts
+abbrev pub conflictMark : List (Option ℕ) → ℕ
+conflictMark (first ∷ none ∷ lengths) = 1
+conflictMark (first ∷ some n ∷ lengths) = 0
+conflictMark (first ∷ []) = 0
+conflictMark [] = 0
+
+-- the bytes written to the second buffer
+abbrev pub secondLength : List (Option ℕ) → ℕ
+secondLength (first ∷ second ∷ lengths) = orZero second
+secondLength (first ∷ []) = 0
+secondLength [] = 0
+
+-- a call on a buffer for rows or conflicts and one for fixes meets them and tells so in six numbers: the refusal, the record, the
+-- mark of conflicts, the length of the first part or beside 17 the length for the short buffer, the length of the second part, and
+-- beside 17 which buffer is short
+pub record MeetsTwo (a : Answer Written) (out fixes outAfter fixesAfter : Text) (refusal recordNumber mark size fixesSize buffer : ℕ) : Type 0 where
+  pub told : Told
+  pub meets : Meets a (out ∷ fixes ∷ []) (outAfter ∷ fixesAfter ∷ []) told
+  pub refusal-is : refusal ≡ told .refusal
+  pub record-is : recordNumber ≡ orZero (told .recordNumber)
+  pub mark-is : mark ≡ conflictMark (told .lengths)
+  pub size-is : size ≡ oneLength (told .lengths) (told .beside)
+  pub fixes-size-is : fixesSize ≡ secondLength (told .lengths)
+  pub buffer-is : buffer ≡ told .buffer

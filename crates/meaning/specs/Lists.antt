@@ -1,9 +1,9 @@
 -- Reading spec lists and item lists: the questions in order, each record in turn. The cursor that walks a list, and its answer at or
 -- past the end, are the code's: crate `list`.
 use Prim.Native.Nat.{ℕ, zero, suc}
-use mathlib.Core.Bool.{Bool, true, false, cond}
+use mathlib.Core.Bool.{cond}
 use mathlib.Core.List.{List, [], _∷_}
-use mathlib.Core.Option.{Option, none, some}
+use mathlib.Core.Option.{none, some}
 use lib.Dec.{leb, ltb}
 use lib.ListN.{length}
 use Rattle.meaning.specs.Bytes.{Text}

@@ -1,23 +1,23 @@
 -- Samples beside the starred table, computed: where document 01 and its readings could be taken differently, and limits on both sides.
-use Prim.Native.Nat.{ℕ, suc}
+use Prim.Native.Nat.{ℕ}
 use mathlib.Core.Path.{_≡_, refl}
-use mathlib.Core.Bool.{Bool, true, false, cond}
+use mathlib.Core.Bool.{true, false}
 use mathlib.Core.List.{List, [], _∷_, _++_}
 use mathlib.Core.Option.{Option, none, some}
 use lib.ListN.{length, replicate}
 use Rattle.meaning.specs.Bytes.{Text, bytes, In, here, there}
 use Rattle.meaning.specs.Spec.{Answer, accepted, refused, Mode, Normal, Force, Negative, Spec, readSpec}
 use Rattle.meaning.specs.Buffers.{Written}
-use Rattle.meaning.specs.Instruction.{fetchOnly, fetchExclude, fetchAndUpdate, pushAllMatchingBranches, pushMatching, pushExclude}
+use Rattle.meaning.specs.Instruction.{fetchExclude, fetchAndUpdate, pushAllMatchingBranches, pushMatching, pushExclude}
 use Rattle.meaning.specs.Prefix.{GroupPrefixes, candidates}
 use Rattle.meaning.specs.Number.{numberBytes, recordBytes, took, no, readNumber}
 use Rattle.meaning.specs.Lists.{readSpecs, readItems}
 use Rattle.meaning.specs.Rows.{Row, rowListOf, readRows}
 use Rattle.meaning.specs.Match.{unmapped, mapped, forward, reverse}
 use Rattle.meaning.specs.Listing.{forwardRows, reverseRows}
-use Rattle.meaning.specs.Validation.{conflicts, verdict, conflicting, passing}
-use Rattle.meaning.specs.Entries.{instructed, prefixed, toBstring, expanded, IsGroupPrefixes, matchLhs, matchRhs, verdictOn, validated}
-use Rattle.meaning.specs.View.{itemList, specList, Part, sourceView, viewText, viewNumbers}
+use Rattle.meaning.specs.Validation.{conflicts, verdict, passing}
+use Rattle.meaning.specs.Entries.{instructed, prefixed, toBstring, expanded, IsGroupPrefixes, matchLhs, matchRhs, validated}
+use Rattle.meaning.specs.View.{itemList, specList, sourceView, viewText, viewNumbers}
 use Rattle.meaning.specs.Deliveries.{withinLimit, deliveries}
 use Rattle.meaning.specs.Everything.{everything}
 

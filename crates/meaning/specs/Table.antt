@@ -1,13 +1,12 @@
 -- The starred lines of document 01, proved together.
-use Prim.Native.Nat.{ℕ}
 use mathlib.Core.Path.{_≡_, refl}
-use mathlib.Core.List.{List, [], _∷_}
-use mathlib.Core.Option.{Option, none, some}
+use mathlib.Core.List.{[], _∷_}
+use mathlib.Core.Option.{none, some}
 use Rattle.meaning.specs.Bytes.{Text, bytes}
-use Rattle.meaning.specs.Spec.{Answer, accepted, refused, Mode, Normal, Spec, readSpec}
+use Rattle.meaning.specs.Spec.{Answer, accepted, refused, Normal, Spec, readSpec}
 use Rattle.meaning.specs.Buffers.{Written}
 use Rattle.meaning.specs.Instruction.{fetchOnly, pushDelete}
-use Rattle.meaning.specs.Match.{Mapped, unmapped, mapped, forward}
+use Rattle.meaning.specs.Match.{unmapped, mapped, forward}
 use Rattle.meaning.specs.Entries.{instructed, prefixed, toBstring, expanded}
 use Rattle.meaning.specs.Everything.{everything}
 

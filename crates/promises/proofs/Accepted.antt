@@ -1,19 +1,18 @@
 -- What an accepted spec is, by the questions that it passed. Assumes nothing.
-use mathlib.Core.Path.{_≡_, refl, sym, ap, _∙_}
-use mathlib.Core.Bool.{Bool, true, false, not, cond, true≢false, false≢true}
-use mathlib.Core.List.{List, [], _∷_}
+use mathlib.Core.Path.{_≡_, refl, sym, ap}
+use mathlib.Core.Bool.{Bool, true, false, not, cond, false≢true}
+use mathlib.Core.List.{[], _∷_}
 use mathlib.Core.Option.{Option, none, some}
 use Prim.Native.Nat.{ℕ, zero, suc, _≤_, _<_}
 use native.Mathlib.Omega.{arith}
-use borrow.Author.Tests.{leb-true, eq-eqb, eqb-true, eqb-false, not-true, not-false}
+use borrow.Author.Tests.{leb-true, eqb-false, not-true}
 use lib.Dec.{eqb, leb, lit<}
 use lib.ListN.{length}
-use Rattle.meaning.specs.Bytes.{Text, bytes, _and_, _or_, agree, empty, same, given, present, absent, ifGiven, In}
+use Rattle.meaning.specs.Bytes.{Text, bytes, _and_, _or_, agree, empty, same, given, present, absent, ifGiven}
 use Rattle.meaning.specs.Names.{sidePasses}
-use Rattle.meaning.specs.Spec.{Answer, accepted, refused, _else_then_, Mode, Normal, Force, Negative, Spec, isNegative, push, modeOf, unsigned, Sides, one, two, sidesOf, hasColon, left, right, supplied, named, sourceOf, specFrom, specOf, hasStar, atMostOneStar, exempt, notHashLike, starsAgree, sidesRefusal, specRefusal, unless, readSpec}
-use Rattle.meaning.specs.Lists.{readSpecs}
-use Rattle.promises.specs.Accepted.{AcceptedSpec, ReadIsAccepted, ColonHasDestination, GroupIsAccepted}
-use Rattle.promises.proofs.Laws.{and-both, or-cases, or-right}
+use Rattle.meaning.specs.Spec.{accepted, _else_then_, Mode, Normal, Force, Negative, Spec, isNegative, push, modeOf, unsigned, Sides, one, two, sidesOf, hasColon, left, right, supplied, named, sourceOf, specFrom, specOf, hasStar, atMostOneStar, exempt, notHashLike, starsAgree, sidesRefusal, specRefusal, unless, readSpec}
+use Rattle.meaning.specs.Instruction.{instruction, fetchInstruction, pushExclude}
+use Rattle.promises.specs.Accepted.{AcceptedSpec, ReadIsAccepted, ColonHasDestination, GroupIsAccepted, InstructionsOfSides}
 use Rattle.promises.proofs.Members.{group-texts}
 
 -- a question that did not refuse was answered yes, and the later ones did not refuse
@@ -194,3 +193,27 @@ colon-has-destination op t s e p c h =
 -- every spec of a list that is read is accepted so
 pub group-is-accepted : GroupIsAccepted
 group-is-accepted op specs group e s m = let t = group-texts op specs group e s m in read-is-accepted op (t .0) s (t .1)
+
+-- a side that is there
+pub present-is : (o : Option Text) → present o ≡ true → (t : Text) × (o ≡ some t)
+present-is none e = absurd (false≢true e)
+present-is (some t) e = (t, refl)
+
+-- a fetch with a source
+fetch-of : (op : ℕ) (s : Spec) (src : Text) → push op ≡ false → s .source ≡ some src → instruction op s ≡ fetchInstruction (s .mode) src (s .destination)
+unfolding instruction
+fetch-of op s src p e = rw (p, e)
+
+-- a negative push with a source
+exclude-of : (op : ℕ) (s : Spec) (src : Text) → push op ≡ true → s .mode ≡ Negative → s .source ≡ some src → instruction op s ≡ pushExclude src
+unfolding instruction
+exclude-of op s src p m e = rw (p, m, e)
+
+-- an instruction is made of the sides of its spec
+pub instructions-of-sides : InstructionsOfSides
+instructions-of-sides op t s e =
+    let a = read-is-accepted op t s e in
+    record {
+      fetch-side = λ p. let q = present-is (s .source) (a .fetch-source p) in (q .0, q .1, fetch-of op s (q .0) p (q .1));
+      exclude-side = λ p m. let n : isNegative (s .mode) ≡ true = ap isNegative m in let q = present-is (s .source) (a .negative-source n) in (q .0, q .1, exclude-of op s (q .0) p m (q .1));
+    }

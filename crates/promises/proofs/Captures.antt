@@ -1,19 +1,20 @@
 -- What stands after a start and before an end, captures, and the form of a text. Assumes nothing.
 use mathlib.Core.Path.{_≡_, refl, sym, ap, _∙_}
-use mathlib.Core.Logic.{_⊎_, inl, inr, _↔_}
-use mathlib.Core.Bool.{Bool, true, false, cond, true≢false, false≢true}
-use mathlib.Core.List.{List, [], _∷_, _++_}
+use mathlib.Core.Logic.{_⊎_, inl, inr}
+use mathlib.Core.Bool.{Bool, true, false, cond, false≢true}
+use mathlib.Core.List.{[], _∷_, _++_}
 use mathlib.Core.Option.{Option, none, some}
-use Prim.Native.Nat.{ℕ, zero, suc, _+_, _-_, _≤_, _<_}
+use Prim.Native.Nat.{ℕ, suc, _-_, _≤_}
 use native.Mathlib.Omega.{arith}
 use borrow.Author.Tests.{eq-eqb, eqb-true}
 use lib.Dec.{eqb}
 use lib.ListN.{length, take, drop, length-append}
 use lib.Seq.{take-append-seam, drop-append-seam}
-use Rattle.meaning.specs.Bytes.{Text, _and_, _or_, same, begins, ends, after, before}
+use Rattle.meaning.specs.Bytes.{Text, same, begins, ends, after, before}
 use Rattle.meaning.specs.Spec.{starred}
 use Rattle.meaning.specs.Prefix.{beforeStar}
-use Rattle.meaning.specs.Match.{afterStar, Form, literal, pattern, formOf, beforeIn, capture}
+use Rattle.meaning.specs.Match.{afterStar, literal, pattern, formOf, beforeIn, capture}
+use Rattle.promises.specs.Facts.{CaptureExactly}
 use Rattle.promises.proofs.Laws.{and-left, and-right, or-cases, or-right, same-is, same-refl}
 
 -- a text that begins with p is p and what follows
@@ -97,6 +98,10 @@ capture-is a b n c e = go (after a n) refl e
 pub capture-fill : (a b c : Text) → capture a b (a ++ (c ++ b)) ≡ some c
 unfolding capture
 capture-fill a b c = rw (after-append a (c ++ b)) (before-append b c)
+
+-- a name has a capture exactly when it is the start, the capture and the end
+pub capture-exactly : CaptureExactly
+capture-exactly a b name c = (capture-is a b name c, λ e. rw e (capture-fill a b c))
 
 -- a text with no star is literal
 pub form-plain : (t : Text) → starred t ≡ false → formOf t ≡ literal t

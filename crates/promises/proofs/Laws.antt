@@ -1,49 +1,53 @@
 -- Laws of lists and texts. Assumes nothing.
-use mathlib.Core.Path.{_≡_, refl, sym, ap, _∙_, subst}
-use mathlib.Core.Bool.{Bool, true, false, not, cond, true≢false, false≢true}
-use mathlib.Core.List.{List, [], _∷_, _++_, map, append-nil, append-assoc}
-use mathlib.Core.Option.{Option, none, some}
-use mathlib.Core.Logic.{_⊎_, inl, inr, _↔_}
-use Prim.Native.Nat.{ℕ, zero, suc, _+_, _-_, _≤_, _<_}
+use mathlib.Core.Path.{_≡_, refl, sym, ap, subst}
+use mathlib.Core.Bool.{Bool, true, false, cond, true≢false, false≢true}
+use mathlib.Core.List.{List, [], _∷_, _++_, map}
+use mathlib.Core.Logic.{_⊎_, inl, inr}
+use Prim.Native.Nat.{ℕ, suc, _+_, _≤_, _<_}
 use native.Mathlib.Omega.{arith}
-use borrow.Author.Tests.{eq-eqb, ne-eqb, eqb-true, eqb-false}
+use borrow.Author.Tests.{eq-eqb, eqb-true}
 use lib.Dec.{eqb}
 use lib.ListN.{length, length-append}
 use Rattle.meaning.specs.Bytes.{Text, _and_, _or_, every, any, keep, each, numberedFrom, same, insert, inOrder, earlier}
 use Rattle.meaning.specs.Bytes.{In, here, there}
 
+-- both hold: the first does
 pub and-left : (a b : Bool) → (a and b) ≡ true → a ≡ true
 and-left true b e = refl
 and-left false b e = e
 
+-- both hold: the second does
 pub and-right : (a b : Bool) → (a and b) ≡ true → b ≡ true
 and-right true b e = e
 and-right false b e = absurd (false≢true e)
 
+-- each holds: both do
 pub and-both : {a b : Bool} → a ≡ true → b ≡ true → (a and b) ≡ true
 and-both p q = rw (p, q)
 
+-- one of two holds: the first or the second
 pub or-cases : (a b : Bool) → (a or b) ≡ true → (a ≡ true) ⊎ (b ≡ true)
 or-cases true b e = inl refl
 or-cases false b e = inr e
 
+-- the second holds: one of the two does
 pub or-right : (a b : Bool) → b ≡ true → (a or b) ≡ true
 or-right true b e = refl
 or-right false b e = e
 
+-- neither of two holds: each does not
 pub or-none : (a b : Bool) → (a or b) ≡ false → (a ≡ false) × (b ≡ false)
 or-none true b e = absurd (true≢false e)
 or-none false b e = (refl, e)
 
-pub not-both : (b : Bool) → b ≡ true → b ≡ false → ⊥
-not-both b p q = true≢false (sym p ∙ q)
-
 -- membership
 
+-- a member of the first list is one of both
 pub in-left : {A : Type 0} {x : A} {l : List A} (m : List A) → In x l → In x (l ++ m)
 in-left m here = here
 in-left m (there h) = there (in-left m h)
 
+-- a member of the second list is one of both
 pub in-right : {A : Type 0} {x : A} (l : List A) {m : List A} → In x m → In x (l ++ m)
 in-right [] h = h
 in-right (y ∷ l) h = there (in-right l h)
@@ -52,12 +56,14 @@ in-append-there : {A : Type 0} {x y : A} {l m : List A} → In x l ⊎ In x m �
 in-append-there (inl g) = inl (there g)
 in-append-there (inr g) = inr g
 
+-- a member of both lists is one of the first or of the second
 pub in-append : {A : Type 0} {x : A} (l : List A) {m : List A} → In x (l ++ m) → In x l ⊎ In x m
 in-append [] h = inr h
 in-append (y ∷ l) here = inl here
 in-append (y ∷ l) (there h) = in-append-there (in-append l h)
 
 module _ {A : Type 0} where
+  -- a member that passes is kept
   pub in-keep : (test : A → Bool) {x : A} {l : List A} → In x l → test x ≡ true → In x (keep test l)
   in-keep test here e = rw e here
   in-keep test {x} (there {s = y} {l = l} h) e = go (test y) (in-keep test h e)
@@ -73,6 +79,7 @@ module _ {A : Type 0} where
   keep-head test e f here = (here, e)
   keep-head test e f (there h) = keep-there test (f h)
 
+  -- a kept member is a member and passes
   pub keep-in : (test : A → Bool) {x : A} (l : List A) → In x (keep test l) → In x l × (test x ≡ true)
   keep-in test [] h = elim h [ ]
   keep-in test {x} (y ∷ l) h = go (keep-in test l) (test y) refl h
@@ -81,10 +88,12 @@ module _ {A : Type 0} where
       go f true e g = keep-head test e f g
       go f false e g = keep-there test (f g)
 
+  -- a member that passes: some member passes
   pub in-any : (test : A → Bool) {x : A} {l : List A} → In x l → test x ≡ true → any test l ≡ true
   in-any test here e = rw e
   in-any test (there {s = y} h) e = rw (in-any test h e) (or-right (test y) true refl)
 
+  -- some member passes: here is one
   pub any-in : (test : A → Bool) (l : List A) → any test l ≡ true → (x : A) × In x l × (test x ≡ true)
   any-in test [] e = absurd (false≢true e)
   any-in test (y ∷ l) e = go (any-in test l) (or-cases (test y) (any test l) e)
@@ -93,14 +102,17 @@ module _ {A : Type 0} where
       go f (inl p) = (y, here, p)
       go f (inr p) = let r = f p in (r .0, there (r .1), r .2)
 
+  -- every member passes: so does this one
   pub every-in : (test : A → Bool) {x : A} {l : List A} → every test l ≡ true → In x l → test x ≡ true
   every-in test e (here {l = l}) = and-left _ (every test l) e
   every-in test e (there {s = y} {l = l} h) = every-in test (and-right (test y) (every test l) e) h
 
+  -- what a member gives is among what all give
   pub in-each : {B : Type 0} (f : A → List B) {x : A} {l : List A} {y : B} → In x l → In y (f x) → In y (each l f)
   in-each f (here {l = l}) g = in-left (each l f) g
   in-each f (there {s = z} h) g = in-right (f z) (in-each f h g)
 
+  -- what all give comes from a member
   pub each-in : {B : Type 0} (f : A → List B) (l : List A) {y : B} → In y (each l f) → (x : A) × In x l × In y (f x)
   each-in f [] h = elim h [ ]
   each-in f (x ∷ l) {y} h = go (each-in f l) (in-append (f x) h)
@@ -109,6 +121,7 @@ module _ {A : Type 0} where
       go k (inl g) = (x, here, g)
       go k (inr g) = let r = k g in (r .0, there (r .1), r .2)
 
+  -- a member's image is an image
   pub in-map : {B : Type 0} (f : A → B) {x : A} {l : List A} → In x l → In (f x) (map f l)
   in-map f here = here
   in-map f (there h) = there (in-map f h)
@@ -117,23 +130,28 @@ module _ {A : Type 0} where
   map-head f {z} g here = (z, here, refl)
   map-head f g (there h) = let r = g h in (r .0, there (r .1), r .2)
 
+  -- an image comes from a member
   pub map-in : {B : Type 0} (f : A → B) (l : List A) {y : B} → In y (map f l) → (x : A) × In x l × (y ≡ f x)
   map-in f [] h = elim h [ ]
   map-in f (x ∷ l) h = map-head f (map-in f l) h
 
+  -- what is equal to a member is one
   pub in-cast : {x y : A} {l : List A} → x ≡ y → In y l → In x l
   in-cast {l = l} e h = subst (λ (z : A). In z l) (sym e) h
 
+-- a member is the first or one of the rest
 pub in-cons : {A : Type 0} {d x : A} {l : List A} → In d (x ∷ l) → (d ≡ x) ⊎ In d l
 in-cons here = inl refl
 in-cons (there h) = inr h
 
 -- texts
 
+-- a text is the same as itself
 pub same-refl : (s : Text) → same s s ≡ true
 same-refl [] = refl
 same-refl (x ∷ s) = and-both (eq-eqb x x refl) (same-refl s)
 
+-- texts that are the same are equal
 pub same-is : (s t : Text) → same s t ≡ true → s ≡ t
 same-is [] [] e = refl
 same-is [] (y ∷ t) e = absurd (false≢true e)
@@ -143,9 +161,11 @@ same-is (x ∷ s) (y ∷ t) e =
     let q : s ≡ t = same-is s t (and-right (eqb x y) (same s t) e) in
     cc
 
+-- equal texts are the same
 pub same-eq : {s t : Text} → s ≡ t → same s t ≡ true
 same-eq {s} {t} e = rw e (same-refl t)
 
+-- what was put in its place is there
 pub insert-new : (s : Text) (l : List Text) → In s (insert s l)
 insert-new s [] = here
 insert-new s (t ∷ l) = go (insert-new s l) (same s t) (earlier s t) refl
@@ -155,6 +175,7 @@ insert-new s (t ∷ l) = go (insert-new s l) (same s t) (earlier s t) refl
     go h false true e = here
     go h false false e = there h
 
+-- what was there stays there
 pub insert-old : (s : Text) {d : Text} {l : List Text} → In d l → In d (insert s l)
 insert-old s {d} (here {l = l}) = go (same s d) (earlier s d)
   where
@@ -190,6 +211,7 @@ pub each-long : {A : Type 0} (w : A → Text) {x : A} {l : List A} → In x l �
 each-long w {x} (here {l = l}) = omega (arith, length-append (w x) (each l w))
 each-long w (there {s = y} {l = l} h) = omega (arith, each-long w h, length-append (w y) (each l w))
 
+-- to map each member to itself changes nothing
 pub map-same : {A : Type 0} (l : List A) → map (λ (x : A). x) l ≡ l
 map-same [] = refl
 map-same (x ∷ l) = ap (λ (k : List _). x ∷ k) (map-same l)

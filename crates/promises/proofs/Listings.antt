@@ -1,16 +1,16 @@
 -- Where the rows of a listing come from, and that they are there. Assumes nothing.
-use mathlib.Core.Path.{_≡_, refl, sym, ap, _∙_}
-use mathlib.Core.Bool.{Bool, true, false, not, cond}
-use mathlib.Core.List.{List, [], _∷_, _++_}
+use mathlib.Core.Path.{_≡_, refl, sym, ap}
+use mathlib.Core.Bool.{Bool, true, false, cond}
+use mathlib.Core.List.{List, []}
 use mathlib.Core.Option.{Option, none, some, Option·map}
-use Prim.Native.Nat.{ℕ, zero, suc, _+_, _<_}
+use Prim.Native.Nat.{ℕ, suc, _<_}
 use native.Mathlib.Omega.{arith}
 use borrow.Author.Tests.{not-true}
 use lib.ListN.{length}
-use Rattle.meaning.specs.Bytes.{Text, bytes, _or_, any, begins, keep, each, numbered, objectId, In, here, there}
+use Rattle.meaning.specs.Bytes.{Text, bytes, _or_, any, begins, each, numbered, objectId, In, here, there}
 use Rattle.meaning.specs.Spec.{Spec, isNegative, starred}
 use Rattle.meaning.specs.Rows.{Row}
-use Rattle.meaning.specs.Match.{Form, literal, pattern, formOf, Needle, starNeedle, full, object, partial, plainNeedle, formNeedle, needleOf, objectIn, objectBy, objectSource, Mapped, unmapped, mapped, forward, reverse}
+use Rattle.meaning.specs.Match.{formOf, full, object, partial, plainNeedle, formNeedle, needleOf, objectIn, objectBy, objectSource, Mapped, unmapped, mapped, forward, reverse}
 use Rattle.meaning.specs.Listing.{Ends, endsOf, forwardEnds, reverseEnds, nameRow, nameRows, groupRows, excludes, notExcluded}
 use Rattle.promises.proofs.Laws.{in-each, each-in, numbered-in, in-numbered}
 use Rattle.promises.proofs.Captures.{form-plain, form-starred}

@@ -1,21 +1,21 @@
 -- Demand 3, third: kept destinations map back. Assumes nothing.
 use mathlib.Core.Path.{_≡_, refl, sym, ap, _∙_}
-use mathlib.Core.Logic.{_⊎_, inl, inr, _↔_}
-use mathlib.Core.Bool.{Bool, true, false, not, cond, true≢false, false≢true}
+use mathlib.Core.Logic.{_⊎_, inl, inr}
+use mathlib.Core.Bool.{Bool, true, false, cond, true≢false, false≢true}
 use mathlib.Core.List.{List, [], _∷_, _++_}
 use mathlib.Core.Option.{Option, none, some, Option·map}
-use Prim.Native.Nat.{ℕ, zero, suc}
+use Prim.Native.Nat.{ℕ}
 use native.Mathlib.Omega.{arith}
 use Rattle.meaning.specs.Bytes.{Text, bytes, _and_, _or_, any, every, same, begins, keep, each, numbered, objectId, In, here, there}
 use Rattle.meaning.specs.Spec.{Spec, isNegative, starred}
 use Rattle.meaning.specs.Prefix.{beforeStar, candidates}
 use Rattle.meaning.specs.Rows.{Row}
-use Rattle.meaning.specs.Match.{afterStar, Form, literal, pattern, formOf, capture, Needle, full, object, partial, plainNeedle, formNeedle, needleOf, objectIn, objectBy, objectSource, Hit, miss, whole, caught, wholeIf, caughtBy, hit, completed, Mapped, unmapped, mapped, mapsTo, forwardBy, forward, reverseBy, reverseSides, reverse}
-use Rattle.meaning.specs.Listing.{Ends, endsOf, forwardEnds, reverseEnds, groupRows, objectRow, objectRows, notExcluded, forwardRows, reverseRows}
-use Rattle.meaning.specs.Validation.{Conflict, conflicts, isKept, Fix, Verdict, conflicting, passing, passUnless, verdict}
-use Rattle.promises.specs.Terms.{SameSource, TwoSources, Passes, bothWays, reversible, StandsAsSource}
+use Rattle.meaning.specs.Match.{afterStar, literal, pattern, formOf, capture, full, object, partial, plainNeedle, needleOf, objectIn, objectBy, objectSource, Hit, miss, whole, caught, wholeIf, caughtBy, hit, completed, Mapped, mapped, mapsTo, forwardBy, forward, reverseSides, reverse}
+use Rattle.meaning.specs.Listing.{Ends, forwardEnds, reverseEnds, groupRows, objectRow, objectRows, notExcluded, forwardRows, reverseRows}
+use Rattle.meaning.specs.Validation.{Conflict, conflicts, isKept, Fix, passing, passUnless, verdict}
+use Rattle.promises.specs.Terms.{TwoSources, bothWays, reversible, StandsAsSource}
 use Rattle.promises.specs.Demands.{KeptMapBack}
-use Rattle.promises.proofs.Laws.{and-left, and-right, or-cases, or-right, in-right, in-append, in-keep, keep-in, every-in, each-in, numbered-in, same-is, same-eq}
+use Rattle.promises.proofs.Laws.{and-left, and-right, or-cases, in-right, in-append, in-keep, keep-in, every-in, each-in, numbered-in, same-is, same-eq}
 use Rattle.promises.proofs.Captures.{capture-is, capture-fill, form-plain, form-starred}
 use Rattle.promises.proofs.Listings.{endsIn, FromGroup, from-group, to-group, forward-made, reverse-made, Free, excluded-free, free-stays, no-object}
 use Rattle.promises.proofs.Conflicts.{passes-exactly}

@@ -1,9 +1,9 @@
 -- What the members of an accepted list have, that what is written within the limits is read back, and that a longer list is refused.
-use mathlib.Core.Path.{_≡_, refl, sym, ap, _∙_}
+use mathlib.Core.Path.{_≡_, refl, ap}
 use mathlib.Core.Bool.{Bool, true, false, cond}
 use mathlib.Core.List.{List, [], _∷_, _++_, map}
-use mathlib.Core.Option.{Option, none, some}
-use Prim.Native.Nat.{ℕ, zero, suc, _+_, _≤_, _<_}
+use mathlib.Core.Option.{none}
+use Prim.Native.Nat.{ℕ, _≤_, _<_}
 use native.Mathlib.Omega.{arith}
 use borrow.Author.Tests.{lt-ltb, ltb-true, le-leb, lt-leb, leb-true}
 use lib.Dec.{leb, ltb}
@@ -50,7 +50,7 @@ spec-text op j s b rest e =
     (q .0, answered-took (readSpec op (q .0)) (q .1) (q .3))
 
 -- a spec list that is accepted passed question 18
-specs-list : (op : ℕ) (specs : Text) (group : List Spec) → readSpecs op specs ≡ accepted group → readList 65535 (specRecord op) specs ≡ accepted group
+pub specs-list : (op : ℕ) (specs : Text) (group : List Spec) → readSpecs op specs ≡ accepted group → readList 65535 (specRecord op) specs ≡ accepted group
 unfolding readSpecs
 specs-list op specs group e = go (leb op 1) e
   where

@@ -1,18 +1,18 @@
 -- Demand 3, second: a forward listing that fits a row list is read back as the same rows. Assumes nothing.
-use mathlib.Core.Path.{_≡_, refl, sym, ap, _∙_}
+use mathlib.Core.Path.{_≡_, refl, ap}
 use mathlib.Core.Logic.{_⊎_, inl, inr}
-use mathlib.Core.Bool.{Bool, true, false, not, cond, true≢false, false≢true}
-use mathlib.Core.List.{List, [], _∷_, _++_, map, append-assoc}
+use mathlib.Core.Bool.{true}
+use mathlib.Core.List.{List, [], _∷_, _++_, append-assoc}
 use mathlib.Core.Option.{Option, none, some, Option·map}
-use Prim.Native.Nat.{ℕ, zero, suc, _+_, _-_, _≤_, _<_}
+use Prim.Native.Nat.{ℕ, suc, _+_, _≤_, _<_}
 use native.Mathlib.Omega.{arith}
 use borrow.Author.Tests.{lt-ltb, le-leb, lt-leb, leb-true}
-use lib.Dec.{eqb, leb, ltb}
+use lib.Dec.{eqb, leb}
 use lib.ListN.{length, length-append}
-use Rattle.meaning.specs.Bytes.{Text, _and_, _or_, every, keep, each, numbered, hexDigit, lowerHexDigit, lowerByte, lower, objectId, In, here, there}
-use Rattle.meaning.specs.Spec.{Answer, accepted, refused, Spec}
-use Rattle.meaning.specs.Number.{numberBytes, textBytes, Step, took, no}
-use Rattle.meaning.specs.Lists.{readList, readSpecs, readItems}
+use Rattle.meaning.specs.Bytes.{Text, _and_, _or_, every, each, numbered, hexDigit, lowerHexDigit, lowerByte, lower, objectId, In, here, there}
+use Rattle.meaning.specs.Spec.{Answer, accepted, Spec}
+use Rattle.meaning.specs.Number.{numberBytes, textBytes, took}
+use Rattle.meaning.specs.Lists.{readList}
 use Rattle.meaning.specs.Rows.{Row, destinationBytes, rowBytes, rowListOf, readDestination, readRow, objectDigits, rowPasses, rowRecord, readRows}
 use Rattle.meaning.specs.Match.{formOf, objectSource, whole, Mapped, unmapped, mapped, mapsTo}
 use Rattle.meaning.specs.Listing.{Ends, forwardEnds, reverseEnds, groupRows, objectRow, objectRows, notExcluded, forwardRows, reverseRows}
@@ -21,7 +21,7 @@ use Rattle.promises.specs.Demands.{ListingsReadBack}
 use Rattle.promises.proofs.Laws.{and-left, and-right, and-both, or-cases, in-append, keep-in, each-in, numbered-in, each-long, map-same}
 use Rattle.promises.proofs.Reading.{read-number, read-bytes, read-text, number-long, records-read}
 use Rattle.promises.proofs.Members.{group-count, names-count}
-use Rattle.promises.proofs.Listings.{FromGroup, from-group, object-source}
+use Rattle.promises.proofs.Listings.{from-group, object-source}
 
 -- digits in lower case
 

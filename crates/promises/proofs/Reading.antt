@@ -1,24 +1,25 @@
 -- What is written is read back: numbers, texts, lists of records; and what an accepted list holds. Assumes nothing.
-use mathlib.Core.Path.{_≡_, refl, sym, ap, _∙_}
-use mathlib.Core.Logic.{_⊎_, inl, inr}
-use mathlib.Core.Bool.{Bool, true, false, not, cond, true≢false, false≢true}
-use mathlib.Core.List.{List, [], _∷_, _++_, map, append-nil, append-assoc}
-use mathlib.Core.Option.{Option, none, some}
+use mathlib.Core.Path.{_≡_, refl, ap, _∙_}
+use mathlib.Core.Bool.{Bool, true, false, cond}
+use mathlib.Core.List.{List, [], _∷_, _++_, map, append-assoc}
+use mathlib.Core.Option.{none}
 use Prim.Native.Nat.{ℕ, zero, suc, _+_, _-_, _*_, _/_, _%_, _^_, _≤_, _<_}
 use native.Mathlib.Omega.{arith}
-use borrow.Author.Tests.{lt-ltb, le-ltb, ne-eqb, ltb-true, ltb-false, le-leb, leb-true}
-use lib.Dec.{eqb, leb, ltb}
-use lib.ListN.{length, take, drop, length-append}
+use borrow.Author.Tests.{lt-ltb, le-ltb, ne-eqb, ltb-false, le-leb}
+use lib.Dec.{leb, ltb}
+use lib.ListN.{length, length-append}
 use lib.Seq.{take-append-seam, drop-append-seam}
-use Rattle.meaning.specs.Bytes.{Text, each, numberedFrom}
+use Rattle.meaning.specs.Bytes.{Text, each}
 use Rattle.meaning.specs.Spec.{Answer, accepted, refused}
 use Rattle.meaning.specs.Bytes.{In, here, there}
-use Rattle.meaning.specs.Number.{groups, numberBytes, textBytes, Step, took, no, Reader, stepThen, _>>=_, groupBefore, readGroups, readNumber, readBytes, readText}
+use Rattle.meaning.specs.Number.{groups, numberBytes, textBytes, Step, took, no, Reader, readGroups, readNumber, readBytes, readText}
 use Rattle.meaning.specs.Lists.{withFirst, recordThen, recordsFrom, readList}
 
+-- a number of one group is read back
 round-small : (k n : ℕ) (s : Text) → ltb n 128 ≡ true → readGroups (suc k) (groups (suc k) n ++ s) ≡ took n s
 round-small k n s e = simp e
 
+-- one of more groups, where the rest is
 round-large : (k n : ℕ) (s : Text) → 128 ≤ n → readGroups k (groups k (n / 128) ++ s) ≡ took (n / 128) s → readGroups (suc k) (groups (suc k) n ++ s) ≡ took n s
 round-large k n s h ih =
     let a : 128 ≤ 128 + n % 128 = omega arith in
@@ -26,6 +27,7 @@ round-large k n s h ih =
     let v : 128 + n % 128 - 128 + n / 128 * 128 ≡ n = omega arith in
     rw (le-ltb n 128 h, le-ltb (128 + n % 128) 128 a, ih, ne-eqb (n / 128) 0 b, v)
 
+-- a number below 128 ^ (k + 1) is read back
 round-groups : (k n : ℕ) (s : Text) → n < 128 ^ suc k → readGroups (suc k) (groups (suc k) n ++ s) ≡ took n s
 round-groups zero n s h = round-small zero n s (lt-ltb n 128 (omega arith))
 round-groups (suc k) n s h = go (round-groups k (n / 128) s (omega arith)) (ltb n 128) refl
@@ -34,14 +36,17 @@ round-groups (suc k) n s h = go (round-groups k (n / 128) s (omega arith)) (ltb 
     go ih true e = round-small (suc k) n s e
     go ih false e = round-large (suc k) n s (ltb-false n 128 e) ih
 
+-- a number is read back
 pub read-number : (n : ℕ) (s : Text) → n < 2097152 → readNumber (numberBytes n ++ s) ≡ took n s
 unfolding readNumber numberBytes
 read-number n s h = round-groups 2 n s h
 
+-- so are bytes
 pub read-bytes : (t s : Text) → readBytes (length t) (t ++ s) ≡ took t s
 unfolding readBytes
 read-bytes t s = rw (le-leb (length t) (length (t ++ s)) (rw (length-append t s) (omega arith)), take-append-seam t s, drop-append-seam t s)
 
+-- and a text with its length
 pub read-text : (t s : Text) → length t < 2097152 → readText (textBytes t ++ s) ≡ took t s
 unfolding readText textBytes
 read-text t s h = rw (append-assoc (numberBytes (length t)) t s, read-number (length t) (t ++ s) h) (read-bytes t s)

@@ -1,17 +1,20 @@
 -- Lists are read record by record: the equations of reading, in which no count of steps stands. Assumes nothing.
-use mathlib.Core.Path.{_≡_, refl, sym, ap, _∙_}
-use mathlib.Core.Bool.{Bool, true, false, not, cond}
-use mathlib.Core.List.{List, [], _∷_, _++_}
-use mathlib.Core.Option.{Option, none, some}
+use mathlib.Core.Path.{_≡_, refl, ap}
+use mathlib.Core.Bool.{Bool, true, false, cond}
+use mathlib.Core.List.{List, [], _∷_}
+use mathlib.Core.Option.{none, some}
 use Prim.Native.Nat.{ℕ, zero, suc, _+_, _-_, _*_, _≤_, _<_}
 use native.Mathlib.Omega.{arith}
+use borrow.Author.Tests.{le-leb}
 use lib.Dec.{eqb, leb, ltb}
 use lib.ListN.{length, take, drop, length-drop}
 use Rattle.meaning.specs.Bytes.{Text}
-use Rattle.meaning.specs.Spec.{Answer, accepted, refused, Spec, readSpec}
+use Rattle.meaning.specs.Spec.{Answer, accepted, refused, readSpec}
 use Rattle.meaning.specs.Number.{Step, took, no, Reader, stepThen, _>>=_, give, need, groupBefore, readGroups, readNumber, readBytes, readText}
-use Rattle.meaning.specs.Lists.{withFirst, recordThen, recordsFrom, answered, specRecord, itemRecord}
-use Rattle.meaning.specs.Rows.{Row, destinationAfter, readDestination, readRow, rowPasses, rowRecord}
+use Rattle.meaning.specs.Lists.{withFirst, recordThen, recordsFrom, answered, readList, specRecord, itemRecord}
+use Rattle.meaning.specs.Rows.{destinationAfter, readDestination, readRow, rowPasses, rowRecord}
+unfoldable pub use Rattle.promises.specs.Facts.{records}
+use Rattle.promises.specs.Facts.{RecordByRecord, ListsRecordByRecord}
 use Rattle.promises.proofs.Members.{step-took}
 
 -- what is left is no longer, or is shorter
@@ -94,10 +97,12 @@ destination-keeps : Keeps readDestination
 unfolding readDestination
 destination-keeps = keeps-then readNumber destinationAfter (shrinks-keeps readNumber number-shrinks) after-keeps
 
+-- a spec takes a byte at least
 pub specs-shrink : (op i : ℕ) → Shrinks (specRecord op i)
 unfolding specRecord
 specs-shrink op i = need-shrinks 14 (ltb i 256) _ (shrinks-then readText (λ t. answered (readSpec op t)) text-shrinks (λ t. answered-keeps (readSpec op t)))
 
+-- so does an item
 pub items-shrink : (i : ℕ) → Shrinks (itemRecord i)
 unfolding itemRecord
 items-shrink i = need-shrinks 14 (ltb i 1024) _ (shrinks-then readText _ text-shrinks (λ t. need-keeps 15 (leb (length t) 4096) (give t) (give-keeps t)))
@@ -112,13 +117,10 @@ row-shrinks =
     keeps-then readDestination _ destination-keeps λ dst.
     give-keeps (record { item = i; spec = s; kind = k; source = src; destination = dst })
 
+-- and a row
 pub rows-shrink : (specs i : ℕ) → Shrinks (rowRecord specs i)
 unfolding rowRecord
 rows-shrink specs i = shrinks-then readRow _ row-shrinks (λ r. need-keeps 16 (rowPasses specs r) (give r) (give-keeps r))
-
--- the records of a text from number i on
-pub records : {B : Type 0} → (ℕ → Reader B) → ℕ → Text → Answer (List B)
-records one i s = recordsFrom one (length s) i s
 
 module _ {B : Type 0} (one : ℕ → Reader B) (shrinks : (i : ℕ) → Shrinks (one i)) where
   same-step : (i : ℕ) (st : Step B) (f g : Text → Answer (List B)) → ((b : B) (rest : Text) → st ≡ took b rest → f rest ≡ g rest) → recordThen i st f ≡ recordThen i st g
@@ -137,6 +139,7 @@ module _ {B : Type 0} (one : ℕ → Reader B) (shrinks : (i : ℕ) → Shrinks 
       same-step i (one i (x ∷ s)) (λ rest. recordsFrom one k (suc i) rest) (λ rest. recordsFrom one m (suc i) rest)
       (λ b rest e. let l = shrinks i (x ∷ s) b rest e in any-steps k m (suc i) rest (omega arith) (omega arith))
 
+  -- at the end of a text there are no records
   pub records-end : (i : ℕ) → records one i [] ≡ accepted []
   unfolding records
   records-end i = refl
@@ -147,3 +150,16 @@ module _ {B : Type 0} (one : ℕ → Reader B) (shrinks : (i : ℕ) → Shrinks 
   records-next i x s =
       same-step i (one i (x ∷ s)) (λ rest. recordsFrom one (length s) (suc i) rest) (λ rest. recordsFrom one (length rest) (suc i) rest)
       (λ b rest e. let l = shrinks i (x ∷ s) b rest e in any-steps (length s) (length rest) (suc i) rest (omega arith) (omega arith))
+
+-- a list is read record by record
+pub record-by-record : {B : Type 0} (one : ℕ → Reader B) → ((i : ℕ) → Shrinks (one i)) → RecordByRecord one
+record-by-record one shrinks = record { at-end = records-end one shrinks; next = records-next one shrinks }
+
+-- all three lists are
+pub lists-record-by-record : ListsRecordByRecord
+lists-record-by-record = ((λ op. record-by-record (specRecord op) (specs-shrink op)), record-by-record itemRecord items-shrink, (λ specs. record-by-record (rowRecord specs) (rows-shrink specs)))
+
+-- a list within its limit is its records
+pub list-records : {B : Type 0} (limit : ℕ) (one : ℕ → Reader B) (s : Text) → length s ≤ limit → readList limit one s ≡ records one 0 s
+unfolding readList records
+list-records limit one s h = rw (le-leb (length s) limit h)

@@ -1,12 +1,13 @@
 -- What every accepted spec is: why the cases that the crate calls unreachable cannot be.
 use Prim.Native.Nat.{ℕ, _≤_}
 use mathlib.Core.Path.{_≡_}
-use mathlib.Core.Bool.{Bool, true, false}
-use mathlib.Core.List.{List, [], _∷_}
-use mathlib.Core.Option.{Option, none, some}
+use mathlib.Core.Bool.{true, false}
+use mathlib.Core.List.{List, []}
+use mathlib.Core.Option.{none, some}
 use Rattle.meaning.specs.Bytes.{Text, _or_, present, ifGiven, In}
 use Rattle.meaning.specs.Names.{sidePasses}
-use Rattle.meaning.specs.Spec.{Answer, accepted, Spec, isNegative, push, unsigned, sidesOf, hasColon, hasStar, atMostOneStar, exempt, readSpec}
+use Rattle.meaning.specs.Spec.{accepted, Negative, Spec, isNegative, push, unsigned, sidesOf, hasColon, hasStar, atMostOneStar, exempt, readSpec}
+use Rattle.meaning.specs.Instruction.{instruction, fetchInstruction, pushExclude}
 use Rattle.meaning.specs.Lists.{readSpecs}
 
 -- what a spec that is accepted for an operation has
@@ -49,3 +50,12 @@ ColonHasDestination =
 -- every spec of a list that is read is accepted so
 abbrev pub GroupIsAccepted : Type 0
 GroupIsAccepted = (op : ℕ) (specs : Text) (group : List Spec) → readSpecs op specs ≡ accepted group → (s : Spec) → In s group → AcceptedSpec op s
+
+-- an instruction is made of the sides of its spec: no text is made up for a source that is not there
+pub record InstructionOfSides (op : ℕ) (s : Spec) : Type 0 where
+  pub fetch-side : push op ≡ false → (src : Text) × (s .source ≡ some src) × (instruction op s ≡ fetchInstruction (s .mode) src (s .destination))
+  pub exclude-side : push op ≡ true → s .mode ≡ Negative → (src : Text) × (s .source ≡ some src) × (instruction op s ≡ pushExclude src)
+
+-- so for every spec that is read
+abbrev pub InstructionsOfSides : Type 0
+InstructionsOfSides = (op : ℕ) (t : Text) (s : Spec) → readSpec op t ≡ accepted s → InstructionOfSides op s

@@ -1,14 +1,14 @@
 -- Demand 3. Its words are defined in Terms, its proofs stand in proofs/, and Variants has what would be false.
-use Prim.Native.Nat.{ℕ, _≤_}
+use Prim.Native.Nat.{_≤_}
 use mathlib.Core.Path.{_≡_}
 use mathlib.Core.Logic.{_↔_}
-use mathlib.Core.Bool.{Bool, true}
+use mathlib.Core.Bool.{true}
 use mathlib.Core.List.{List, [], _∷_}
-use mathlib.Core.Option.{Option, none, some}
+use mathlib.Core.Option.{some}
 use lib.ListN.{length}
 use Rattle.meaning.specs.Bytes.{Text, every, In}
 use Rattle.meaning.specs.Limits.{listBytes, rowListBytes}
-use Rattle.meaning.specs.Spec.{Answer, accepted, Spec}
+use Rattle.meaning.specs.Spec.{accepted, Spec}
 use Rattle.meaning.specs.Lists.{readSpecs, readItems}
 use Rattle.meaning.specs.Rows.{Row, rowListOf, readRows}
 use Rattle.meaning.specs.Listing.{forwardRows, reverseRows}

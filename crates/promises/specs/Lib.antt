@@ -4,3 +4,4 @@ pub mod Accepted
 pub mod Terms
 pub mod Demands
 pub mod Variants
+pub mod Facts

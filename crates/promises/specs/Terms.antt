@@ -1,14 +1,13 @@
 -- The words of demand 3, as document 01 fixes them.
-use Prim.Native.Nat.{ℕ}
 use mathlib.Core.Path.{_≡_}
 use mathlib.Core.Bool.{Bool, true, false, not}
-use mathlib.Core.List.{List, [], _∷_, map}
+use mathlib.Core.List.{List, map}
 use mathlib.Core.Option.{Option, none, some}
 use lib.Dec.{leb}
 use lib.ListN.{length}
 use Rattle.meaning.specs.Bytes.{Text, bytes, _and_, _or_, begins, present, orEmpty, In}
 use Rattle.meaning.specs.Limits.{specBytes}
-use Rattle.meaning.specs.Spec.{Answer, Spec, isNegative, starred}
+use Rattle.meaning.specs.Spec.{Spec, isNegative, starred}
 use Rattle.meaning.specs.Instruction.{canonicalText}
 use Rattle.meaning.specs.Number.{recordBytes}
 use Rattle.meaning.specs.Rows.{Row}

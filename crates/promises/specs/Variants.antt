@@ -1,5 +1,6 @@
--- False variants of demand 3: each of its premises left out, and statements near it. FalseVariants says that none of them holds.
-use Prim.Native.Nat.{ℕ, _≤_}
+-- False variants of demand 3: each of its premises left out, and statements near it. FalseVariants says that none of them holds, and
+-- PremisesMet that the premises can be met.
+use Prim.Native.Nat.{_≤_}
 use mathlib.Core.Path.{_≡_}
 use mathlib.Core.Logic.{_↔_}
 use mathlib.Core.Bool.{Bool, true, false}
@@ -8,13 +9,14 @@ use mathlib.Core.Option.{Option, none, some}
 use lib.ListN.{length}
 use Rattle.meaning.specs.Bytes.{Text, bytes, _and_, _or_, every, keep, begins, In}
 use Rattle.meaning.specs.Limits.{listBytes, rowListBytes}
-use Rattle.meaning.specs.Spec.{Answer, accepted, Spec, starred}
+use Rattle.meaning.specs.Spec.{accepted, Force, Negative, Spec, starred}
+use Rattle.meaning.specs.Number.{recordBytes}
 use Rattle.meaning.specs.Lists.{readSpecs, readItems}
 use Rattle.meaning.specs.Rows.{Row, rowListOf, readRows}
 use Rattle.meaning.specs.Listing.{forwardRows, reverseRows}
 use Rattle.meaning.specs.Validation.{Fix, Verdict, passing, verdict, isKept}
 use Rattle.meaning.specs.Entries.{verdictOn}
-use Rattle.promises.specs.Terms.{TwoSources, NamesConflict, Passes, reversible, StandsAsSource, canonicalList, textFits, noPlus, SameMeaning}
+use Rattle.promises.specs.Terms.{TwoSources, NamesConflict, reversible, StandsAsSource, canonicalList, textFits, noPlus, SameMeaning}
 
 -- Conflicts, exactly
 
@@ -227,3 +229,26 @@ pub record FalseVariants : Type 0 where
   pub canonical-of-any-list : CanonicalOfAnyList → ⊥
   pub canonical-of-any-source : CanonicalOfAnySource → ⊥
   pub canonical-is-the-same : CanonicalIsTheSame → ⊥
+
+-- document 01's own sample: the group, its names, and its one row
+abbrev pub hubGroup : List Spec
+hubGroup =
+    record { mode = Force; source = some (bytes "refs/heads/*"); destination = some (bytes "refs/remotes/hub/*") }
+    ∷ record { mode = Negative; source = some (bytes "refs/heads/tmp*"); destination = none }
+    ∷ []
+
+abbrev pub hubNames : List Text
+hubNames = bytes "refs/heads/codes" ∷ bytes "refs/heads/tmp1" ∷ []
+
+abbrev pub hubRow : Row
+hubRow = record { item = 1; spec = 0; kind = 0; source = bytes "refs/heads/codes"; destination = some (bytes "refs/remotes/hub/codes") }
+
+-- demand 3 speaks of something: the sample meets the premises of its statements
+pub record PremisesMet : Type 0 where
+  pub group-is-read : readSpecs 0 (recordBytes (bytes "+refs/heads/*:refs/remotes/hub/*" ∷ bytes "^refs/heads/tmp*" ∷ [])) ≡ accepted hubGroup
+  pub rows-are : forwardRows hubGroup hubNames ≡ hubRow ∷ []
+  pub is-reversible : every reversible hubGroup ≡ true
+  pub row-is-kept : verdict (forwardRows hubGroup hubNames) ≡ passing (hubRow ∷ []) []
+  pub maps-back : StandsAsSource (reverseRows hubGroup (bytes "refs/remotes/hub/codes" ∷ [])) (bytes "refs/remotes/hub/codes") (bytes "refs/heads/codes")
+  pub texts-fit : (every textFits hubGroup ≡ true) × (length (canonicalList hubGroup) ≤ listBytes)
+  pub has-no-plus : every noPlus hubGroup ≡ true
