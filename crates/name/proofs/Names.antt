@@ -1,97 +1,67 @@
 -- The rules in the order of the code. Assumes nothing.
 use mathlib.Core.Path.{_≡_, refl, sym, ap, _∙_}
-use mathlib.Core.Bool.{Bool, true, false, not, cond, false≢true}
+use mathlib.Core.Bool.{Bool, true, false, not, false≢true}
 use mathlib.Core.List.{[], _∷_}
 use Prim.Native.Nat.{ℕ}
-use borrow.Author.Tests.{eqb-true, ne-eqb}
 use native.Mathlib.Omega.{arith}
+use borrow.Author.Tests.{eqb-true}
 use lib.Dec.{eqb}
 use lib.ListN.{length}
-use Rattle.meaning.specs.Bytes.{Text, star, _and_, _or_, every, empty, hasByte}
-use Rattle.meaning.specs.Names.{partsPass, noTwoDots, ruleFourByte, noControls, ruleFiveByte, noGlobs, slashesPass, noLastDot, noAtBrace, notAt, noBackslash, namePasses, starAsLetter, sidePasses}
-use Rattle.name.specs.Rules.{nameByte, patternByte}
-use Rattle.name.proofs.Stars.{read-empty, read-partsPass, read-noTwoDots, read-slashesPass, read-noLastDot, read-noAtBrace, read-notAt, read-none}
-
--- bytes
-
--- rules of each byte, asked one by one of all bytes or all at once of each
-regroup-bytes : (a b c fs gs n : Bool) → (a and fs) and (b and gs) and not (c or n) ≡ (a and b and not c) and (fs and gs and not n)
-regroup-bytes false b c fs gs n = refl
-regroup-bytes true false c false gs n = refl
-regroup-bytes true false c true gs n = refl
-regroup-bytes true true true false gs n = refl
-regroup-bytes true true true true false n = refl
-regroup-bytes true true true true true n = refl
-regroup-bytes true true false fs gs n = refl
-
-name-bytes : (s : Text) → noControls s and noGlobs s and noBackslash s ≡ every nameByte s
-unfolding noControls noGlobs noBackslash nameByte
-name-bytes [] = refl
-name-bytes (x ∷ s) =
-    regroup-bytes (ruleFourByte x) (ruleFiveByte x) (eqb 92 x) (every ruleFourByte s) (every ruleFiveByte s) (hasByte 92 s)
-    ∙ ap (λ (b : Bool). (ruleFourByte x and ruleFiveByte x and not (eqb 92 x)) and b) (name-bytes s)
-
-letter-passes : nameByte 97 ≡ true
-unfolding nameByte ruleFourByte ruleFiveByte
-letter-passes = refl
-
-pattern-byte : (x : ℕ) → nameByte (cond (eqb star x) 97 x) ≡ patternByte x
-unfolding patternByte
-pattern-byte x = go (eqb star x)
-  where
-    go : (b : Bool) → nameByte (cond b 97 x) ≡ (b or nameByte x)
-    go true = letter-passes
-    go false = refl
-
-pattern-bytes : (s : Text) → every nameByte (starAsLetter s) ≡ every patternByte s
-pattern-bytes [] = refl
-pattern-bytes (x ∷ s) = rw (pattern-byte x, pattern-bytes s)
-
--- the star passes in a pattern, and any other byte as in a name
-pub allows-star : (b : ℕ) → b ≡ 42 → true ≡ patternByte b
-unfolding patternByte
-allows-star b e = rw e
-
-pub allows-other : (b : ℕ) (r : Bool) → (b ≡ 42 → ⊥) → r ≡ not (nameByte b) → not r ≡ patternByte b
-unfolding patternByte
-allows-other b r n e = rw (ne-eqb star b (λ q. n (sym q)), e) (twice (nameByte b))
-  where
-    twice : (c : Bool) → not (not c) ≡ c
-    twice true = refl
-    twice false = refl
-
--- the rules
+use Rattle.meaning.specs.Bytes.{Text, bytes, star, slash, _and_, _or_, every, empty, begins, ends, holds, hasByte}
+use Rattle.meaning.specs.Names.{partsPass, noTwoDots, noControls, ruleFiveByte, noGlobs, slashesPass, noLastDot, noAtBrace, notAt, noBackslash, namePasses, starAsLetter, sidePasses}
+use Rattle.name.specs.Rules.{standAfter}
+use Rattle.name.proofs.Stars.{read-begins, read-ends, read-holds, read-empty, read-partsPass, read-noTwoDots, read-noLastDot, read-noAtBrace, read-notAt, read-none}
+use Rattle.name.proofs.Bytes.{name-bytes, pattern-bytes, stand-first}
 
 -- the rules as the manual orders them, and as the code does
-regroup : (e p d c g b l h a n : Bool) → e and p and d and c and g and h and l and a and n and b ≡ e and p and (d and l) and (c and g and b) and h and (a and n)
-regroup false p d c g b l h a n = refl
-regroup true false d c g b l h a n = refl
-regroup true true false c g b l h a n = refl
-regroup true true true false g b false h a n = refl
-regroup true true true false g b true h a n = refl
-regroup true true true true false b false h a n = refl
-regroup true true true true false b true h a n = refl
-regroup true true true true true b false false a n = refl
-regroup true true true true true b false true a n = refl
-regroup true true true true true false true false a n = refl
-regroup true true true true true false true true false n = refl
-regroup true true true true true false true true true false = refl
-regroup true true true true true false true true true true = refl
-regroup true true true true true true true false a n = refl
-regroup true true true true true true true true false n = refl
+regroup : (d c g f z j l a n b : Bool) → d and c and g and (f and z and j) and l and a and n and b ≡ ((c and g and b) and d and (f and j) and a) and (z and l and n)
+regroup false false g f z j l a n b = refl
+regroup false true false f z j l a n b = refl
+regroup false true true f z j l a n false = refl
+regroup false true true f z j l a n true = refl
+regroup true false g f z j l a n b = refl
+regroup true true false f z j l a n b = refl
+regroup true true true false z j l a n false = refl
+regroup true true true false z j l a n true = refl
+regroup true true true true false j l a n false = refl
+regroup true true true true false false l a n true = refl
+regroup true true true true false true l false n true = refl
+regroup true true true true false true l true n true = refl
+regroup true true true true true false l a n false = refl
+regroup true true true true true false l a n true = refl
+regroup true true true true true true false a n false = refl
+regroup true true true true true true false false n true = refl
+regroup true true true true true true false true n true = refl
+regroup true true true true true true true false n false = refl
+regroup true true true true true true true false n true = refl
+regroup true true true true true true true true false false = refl
+regroup true true true true true true true true false true = refl
 regroup true true true true true true true true true false = refl
 regroup true true true true true true true true true true = refl
 
 -- the rules that the code asks of a side, in its order
-abbrev pub sideRow : Text → Bool
-sideRow s = not (empty s) and partsPass s and (noTwoDots s and noLastDot s) and every patternByte s and slashesPass s and (noAtBrace s and notAt s)
+abbrev sideRow : Text → Bool
+sideRow s = not (empty s) and partsPass s and standAfter slash s and (not (ends (bytes "/") s) and noLastDot s and notAt s)
 
 pub side-row : (s : Text) → sidePasses s ≡ sideRow s
-unfolding sidePasses namePasses
+unfolding sidePasses namePasses slashesPass
 side-row s =
     let t = starAsLetter s in
-    regroup (not (empty t)) (partsPass t) (noTwoDots t) (noControls t) (noGlobs t) (noBackslash t) (noLastDot t) (slashesPass t) (noAtBrace t) (notAt t)
-    ∙ rw (name-bytes t, pattern-bytes s, read-empty s, read-partsPass s, read-noTwoDots s, read-slashesPass s, read-noLastDot s, read-noAtBrace s, read-notAt s)
+    rw (
+      regroup (noTwoDots t) (noControls t) (noGlobs t) (not (begins (bytes "/") t)) (not (ends (bytes "/") t)) (not (holds (bytes "//") t)) (noLastDot t) (noAtBrace t) (notAt t) (noBackslash t),
+      name-bytes t,
+      pattern-bytes s,
+      read-empty s,
+      read-partsPass s,
+      read-noTwoDots s,
+      read-noLastDot s,
+      read-noAtBrace s,
+      read-notAt s,
+      read-begins (bytes "/") s tt,
+      read-ends (bytes "/") s tt,
+      read-holds (bytes "//") s tt,
+      stand-first s,
+    )
 
 -- a text that is not empty, as the code asks it
 pub fail-empty : (s : Text) (b : Bool) → length s ≡ 0 → false ≡ (not (empty s) and b)

@@ -11,8 +11,9 @@ use lib.ListN.{length, drop, take, length-drop}
 use lib.Seq.{drop-drop}
 use Rattle.meaning.specs.Bytes.{Text, slash, _and_, every}
 use Rattle.meaning.specs.Names.{parts, partsNext, partPasses, partsPass}
-use Rattle.text.specs.Place.{firstAt}
 use Rattle.text.proofs.Rests.{rest-part}
+use Rattle.text.proofs.Rows.{and-true}
+use Rattle.text.specs.Place.{firstAt}
 
 -- up to the first slash is the first part, and what comes after it has the others
 parts-split : (s : Text) → firstAt slash s < length s → parts s ≡ take (firstAt slash s) s ∷ parts (drop (suc (firstAt slash s)) s)
@@ -32,10 +33,6 @@ parts-one (x ∷ s) h = go (eqb slash x) h (parts-one s)
     go : (b : Bool) → suc (length s) ≤ cond b 0 (suc (firstAt slash s)) → (length s ≤ firstAt slash s → parts s ≡ s ∷ []) → partsNext b x (parts s) ≡ (x ∷ s) ∷ []
     go true h r = absurd (not-suc-le-zero h)
     go false h r = rw (r (le-of-suc-le-suc h))
-
-and-true : (b : Bool) → (b and true) ≡ b
-and-true true = refl
-and-true false = refl
 
 module _ (s : Text) (at end : ℕ) (r : Bool) (inv : partsPass (drop at s) ≡ partsPass s) (first : end ≡ at + firstAt slash (drop at s)) where
   split : end < length s → partsPass s ≡ partPasses (take (end - at) (drop at s)) and partsPass (drop (end + 1) s)

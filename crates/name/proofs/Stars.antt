@@ -6,7 +6,7 @@ use Prim.Native.Nat.{ℕ}
 use borrow.Author.Tests.{eqb-true}
 use lib.Dec.{T, eqb}
 use Rattle.meaning.specs.Bytes.{Text, bytes, star, slash, _and_, _or_, every, empty, same, begins, ends, holds, hasByte}
-use Rattle.meaning.specs.Names.{parts, partsNext, partPasses, partsPass, noTwoDots, slashesPass, noLastDot, noAtBrace, notAt, starAsLetter}
+use Rattle.meaning.specs.Names.{parts, partsNext, partPasses, partsPass, noTwoDots, noLastDot, noAtBrace, notAt, starAsLetter}
 use Rattle.text.proofs.Sames.{same-swap}
 
 -- neither a star nor an a
@@ -40,16 +40,16 @@ read-same [] (x ∷ s) t = refl
 read-same (a ∷ p) [] t = refl
 read-same (a ∷ p) (x ∷ s) t = ap₂ _and_ (read-byte a x (both-left (avoids a) (every avoids p) t)) (read-same p s (both-right (avoids a) (every avoids p) t))
 
-read-begins : (p s : Text) → T (every avoids p) → begins p (starAsLetter s) ≡ begins p s
+pub read-begins : (p s : Text) → T (every avoids p) → begins p (starAsLetter s) ≡ begins p s
 read-begins [] s t = refl
 read-begins (a ∷ p) [] t = refl
 read-begins (a ∷ p) (x ∷ s) t = ap₂ _and_ (read-byte a x (both-left (avoids a) (every avoids p) t)) (read-begins p s (both-right (avoids a) (every avoids p) t))
 
-read-ends : (p s : Text) → T (every avoids p) → ends p (starAsLetter s) ≡ ends p s
+pub read-ends : (p s : Text) → T (every avoids p) → ends p (starAsLetter s) ≡ ends p s
 read-ends p [] t = refl
 read-ends p (x ∷ s) t = ap₂ _or_ (read-same p (x ∷ s) t) (read-ends p s t)
 
-read-holds : (p s : Text) → T (every avoids p) → holds p (starAsLetter s) ≡ holds p s
+pub read-holds : (p s : Text) → T (every avoids p) → holds p (starAsLetter s) ≡ holds p s
 read-holds p [] t = refl
 read-holds p (x ∷ s) t = ap₂ _or_ (read-begins p (x ∷ s) t) (read-holds p s t)
 
@@ -81,10 +81,6 @@ read-partsPass s = rw (read-parts s) (read-every (parts s))
 pub read-noTwoDots : (s : Text) → noTwoDots (starAsLetter s) ≡ noTwoDots s
 unfolding noTwoDots
 read-noTwoDots s = rw (read-holds (bytes "..") s tt)
-
-pub read-slashesPass : (s : Text) → slashesPass (starAsLetter s) ≡ slashesPass s
-unfolding slashesPass
-read-slashesPass s = rw (read-begins (bytes "/") s tt, read-ends (bytes "/") s tt, read-holds (bytes "//") s tt)
 
 pub read-noLastDot : (s : Text) → noLastDot (starAsLetter s) ≡ noLastDot s
 unfolding noLastDot

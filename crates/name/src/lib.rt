@@ -1,9 +1,9 @@
 // The rules of git-check-ref-format with --allow-onelevel, rule by rule, as the manual numbers them.
 ghost use mathlib.Core.Path.{_≡_};
 ghost use mathlib.Core.Bool.{not};
-ghost use Rattle.meaning.specs.Bytes.{_and_, every};
-ghost use Rattle.meaning.specs.Names.{partPasses, partsPass, noTwoDots, slashesPass, noLastDot, noAtBrace, notAt, namePasses, sidePasses};
-ghost use Rattle.name.specs.Rules.{nameByte, patternByte};
+ghost use Rattle.meaning.specs.Bytes.{bytes, slash, _and_, ends};
+ghost use Rattle.meaning.specs.Names.{partPasses, partsPass, noLastDot, notAt, namePasses, sidePasses};
+ghost use Rattle.name.specs.Rules.{nameByte, patternByte, stands, standAfter};
 
 // 4, 5 and 10: a byte that no name has.
 pub fn forbids(b: u8) -> bool
@@ -26,15 +26,30 @@ fn allows(b: u8) -> bool
     !forbids(b)
 }
 
-// Each byte is one that a pattern may have.
-fn bytes_pass(s: &[u8]) -> bool
-    ensures { λ r. ⌜ r ≡ every patternByte (now (s .entry)) ⌝ }
+// 3, 6 and 8: a byte that a pattern may have, and that may follow the one before it.
+fn stands(before: u8, b: u8) -> bool
+    ensures { λ r. ⌜ r ≡ stands before b ⌝ }
 {
+    match b {
+        b'.' => before != b'.',
+        b'/' => before != b'/',
+        b'{' => before != b'@',
+        _ => allows(b),
+    }
+}
+
+// Each byte stands after the one before it, and the first as if after a slash, so that no text begins with one.
+fn bytes_pass(s: &[u8]) -> bool
+    ensures { λ r. ⌜ r ≡ standAfter slash (now (s .entry)) ⌝ }
+{
+    let mut before = b'/';
     let mut i = 0;
     while i < s.len() {
-        if !allows(s[i]) {
+        let b = s[i];
+        if !stands(before, b) {
             return false;
         }
+        before = b;
         i += 1;
     }
     true
@@ -66,34 +81,14 @@ fn parts_pass(s: &[u8]) -> bool
     part_passes(&s[at..])
 }
 
-// 3 and 7: has no `..`, and does not end with `.`.
-fn dots_pass(s: &[u8]) -> bool
-    ensures { λ r. ⌜ r ≡ (noTwoDots (now (s .entry)) and noLastDot (now (s .entry))) ⌝ }
+// 6, 7 and 9: does not end with `/` or `.`, and is not `@` alone.
+fn end_passes(s: &[u8]) -> bool
+    ensures { λ r. ⌜ r ≡ (not (ends (bytes "/") (now (s .entry))) and noLastDot (now (s .entry)) and notAt (now (s .entry))) ⌝ }
 {
-    if text::holds(s, b"..") {
-        return false;
-    }
-    !text::ends(s, b".")
-}
-
-// 6: does not begin or end with `/`, and has no `//`.
-fn slashes_pass(s: &[u8]) -> bool
-    ensures { λ r. ⌜ r ≡ slashesPass (now (s .entry)) ⌝ }
-{
-    if text::begins(s, b"/") {
-        return false;
-    }
     if text::ends(s, b"/") {
         return false;
     }
-    !text::holds(s, b"//")
-}
-
-// 8 and 9: has no `@{`, and is not `@` alone.
-fn at_passes(s: &[u8]) -> bool
-    ensures { λ r. ⌜ r ≡ (noAtBrace (now (s .entry)) and notAt (now (s .entry))) ⌝ }
-{
-    if text::holds(s, b"@{") {
+    if text::ends(s, b".") {
         return false;
     }
     !text::same(s, b"@")
@@ -110,16 +105,10 @@ pub fn pattern(s: &[u8]) -> bool
     if !parts_pass(s) {
         return false;
     }
-    if !dots_pass(s) {
-        return false;
-    }
     if !bytes_pass(s) {
         return false;
     }
-    if !slashes_pass(s) {
-        return false;
-    }
-    at_passes(s)
+    end_passes(s)
 }
 
 // A name passes, of one part or more: it has no star, and passes as a pattern does.

@@ -1,9 +1,9 @@
 -- The loop that writes a number: the bytes of what is left of the number make the whole. Assumes nothing.
-use mathlib.Core.Path.{_≡_, refl, sym, ap, _∙_}
-use mathlib.Core.List.{List, [], _∷_, _++_}
-use Prim.Native.Nat.{ℕ, suc, _+_, _/_, _%_, _<_, _≤_}
+use mathlib.Core.Path.{_≡_, refl}
+use mathlib.Core.List.{[], _∷_}
+use Prim.Native.Nat.{ℕ, _+_, _/_, _%_, _<_, _≤_}
 use native.Mathlib.Omega.{arith}
-use lib.ListN.{length, set, length-set}
+use lib.ListN.{length, set}
 use Rattle.meaning.specs.Bytes.{Text}
 use Rattle.meaning.specs.Number.{numberBytes}
 use Rattle.promises.proofs.Reading.{number-long}

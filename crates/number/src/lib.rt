@@ -46,36 +46,36 @@ pub fn read(s: &[u8], at: usize) -> Number
     read_second(s, at + 1, a)
 }
 
-// The number whose first group is `a`, read on from its second.
-fn read_second(s: &[u8], at: usize, a: usize) -> Number
+// The number whose first group is `a`, read on from its second, at `i`.
+fn read_second(s: &[u8], i: usize, a: usize) -> Number
     requires { ⌜ (128 ≤ a) × (a < 256) ⌝ }
-    ensures { λ r. ⌜ r ≡ foundAt (afterOne a) (now (s .entry)) at ⌝ }
+    ensures { λ r. ⌜ r ≡ foundAt (afterOne a) (now (s .entry)) i ⌝ }
 {
-    if s.len() <= at {
+    if s.len() <= i {
         return Number::Malformed;
     }
-    let b = wide(s[at]);
+    let b = wide(s[i]);
     if b == 0 {
         return Number::Malformed;
     }
     if b < 128 {
         return Number::Is {
             value: a - 128 + b * 128,
-            next: at + 1,
+            next: i + 1,
         };
     }
-    read_third(s, at + 1, a, b)
+    read_third(s, i + 1, a, b)
 }
 
-// The number whose first groups are `a` and `b`, read on from its third, which is the last.
-fn read_third(s: &[u8], at: usize, a: usize, b: usize) -> Number
+// The number whose first groups are `a` and `b`, read on from its third, at `j`, which is the last.
+fn read_third(s: &[u8], j: usize, a: usize, b: usize) -> Number
     requires { ⌜ (128 ≤ a) × (a < 256) × (128 ≤ b) × (b < 256) ⌝ }
-    ensures { λ r. ⌜ r ≡ foundAt (afterTwo a b) (now (s .entry)) at ⌝ }
+    ensures { λ r. ⌜ r ≡ foundAt (afterTwo a b) (now (s .entry)) j ⌝ }
 {
-    if s.len() <= at {
+    if s.len() <= j {
         return Number::Malformed;
     }
-    let c = wide(s[at]);
+    let c = wide(s[j]);
     if c == 0 {
         return Number::Malformed;
     }
@@ -84,7 +84,7 @@ fn read_third(s: &[u8], at: usize, a: usize, b: usize) -> Number
     }
     Number::Is {
         value: a - 128 + (b - 128 + c * 128) * 128,
-        next: at + 1,
+        next: j + 1,
     }
 }
 

@@ -7,6 +7,7 @@ pub mod Sames
 pub mod Lasts
 pub mod Sides
 pub mod Splices
+pub mod Pairs
 pub mod Rows
 pub mod Classes
 pub mod Writing

@@ -1,10 +1,18 @@
 -- A row of rules, joined by `and`, against code that asks them one after the other and returns at the first that fails. Assumes nothing.
-use mathlib.Core.Path.{_≡_, sym, _∙_}
+use mathlib.Core.Path.{_≡_, refl, sym, _∙_}
 use mathlib.Core.Bool.{Bool, true, false, not}
 use Prim.Native.Nat.{ℕ}
 use borrow.Author.Tests.{eq-eqb, ne-eqb, not-true, not-false}
 use lib.Dec.{eqb}
 use Rattle.meaning.specs.Bytes.{_and_}
+
+pub and-true : (b : Bool) → (b and true) ≡ b
+and-true true = refl
+and-true false = refl
+
+pub and-false : (b : Bool) → (b and false) ≡ false
+and-false true = refl
+and-false false = refl
 
 module _ (r a b : Bool) (e : r ≡ a) where
   -- the rule `a` fails

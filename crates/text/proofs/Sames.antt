@@ -3,8 +3,8 @@
 use mathlib.Core.Path.{_≡_, refl, sym, ap, ap₂, _∙_}
 use mathlib.Core.Bool.{Bool, true, false}
 use mathlib.Core.List.{[], _∷_}
-use Prim.Native.Nat.{ℕ, suc, _-_, _≤_, _<_}
 use mathlib.Core.Logic.{_⊎_, inl, inr}
+use Prim.Native.Nat.{ℕ, suc, _-_, _≤_, _<_}
 use native.Mathlib.Nat.{eq-or-lt-of-le}
 use native.Mathlib.Omega.{arith}
 use borrow.Author.Tests.{eq-eqb, ne-eqb, eqb-true, eqb-false}
@@ -13,9 +13,10 @@ use lib.ListN.{length, drop, take, length-drop}
 use lib.Seq.{drop-nil}
 use Rattle.meaning.specs.Bytes.{Text, _and_, _or_, begins, same, ends}
 use Rattle.text.proofs.Rests.{rest-part}
+use Rattle.text.proofs.Rows.{and-false}
 
 -- a test of two numbers asks the same either way round
-eqb-swap : (m n : ℕ) → eqb m n ≡ eqb n m
+pub eqb-swap : (m n : ℕ) → eqb m n ≡ eqb n m
 eqb-swap m n = go (eqb n m) refl
   where
     go : (b : Bool) → eqb n m ≡ b → eqb m n ≡ b
@@ -35,10 +36,6 @@ begins-whole [] [] h = refl
 begins-whole [] (x ∷ s) h = absurd (omega arith)
 begins-whole (a ∷ p) [] h = refl
 begins-whole (a ∷ p) (x ∷ s) h = ap (λ (b : Bool). eqb a x and b) (begins-whole p s (omega arith))
-
-and-false : (b : Bool) → (b and false) ≡ false
-and-false true = refl
-and-false false = refl
 
 -- texts of two lengths are never the same
 pub same-other-length : (s t : Text) → (length s ≡ length t → ⊥) → same s t ≡ false

@@ -39,6 +39,10 @@ splice-splice d at s t h =
     (ap (λ (q : Text). p ++ (t ++ q)) (ap (λ (m : ℕ). drop (m + length t) (p ++ r)) (sym lp) ∙ drop-append-add p r (length t) ∙ drop-drop (length t) (at + length s) d)
     ∙ simp (length-append, append-assoc, add-assoc))
 
+-- the same where a call answered the place after s
+pub splice-next : (d : Text) (at : ℕ) (s t : Text) (k : ℕ) → at + length s ≤ length d → k ≡ at + length s → splice (splice d at s) k t ≡ splice d at (s ++ t)
+splice-next d at s t k h e = rw e (splice-splice d at s t h)
+
 -- one byte written
 pub splice-byte : (d : Text) (at b : ℕ) → at < length d → set d at b ≡ splice d at (b ∷ [])
 unfolding splice

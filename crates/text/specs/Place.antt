@@ -1,7 +1,7 @@
 -- Where a byte stands in a text.
-use Prim.Native.Nat.{ℕ, zero, suc}
 use mathlib.Core.Bool.{Bool, cond}
 use mathlib.Core.List.{[], _∷_}
+use Prim.Native.Nat.{ℕ, zero, suc}
 use lib.Dec.{eqb}
 use Rattle.meaning.specs.Bytes.{Text, countIf}
 

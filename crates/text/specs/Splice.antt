@@ -1,6 +1,6 @@
 -- A buffer after a text was written into it.
-use Prim.Native.Nat.{ℕ, _+_}
 use mathlib.Core.List.{_++_}
+use Prim.Native.Nat.{ℕ, _+_}
 use lib.ListN.{length, take, drop}
 use Rattle.meaning.specs.Bytes.{Text}
 

@@ -1,6 +1,6 @@
 -- `name::allows` meets its contract: the star passes, and any other byte as in a name.
-use Rattle.name.proofs.Names.{allows-star, allows-other}
 use borrow.Author.Needs.{needs}
+use Rattle.name.proofs.Bytes.{allows-star, allows-other}
 use Rattle.name.proofs.allows.Statement.{statement}
 use Rattle.name.proofs.allows.Tie as tie
 

@@ -1,7 +1,7 @@
 -- `name::part_passes` meets its contract: its two questions, one after the other.
+use borrow.Author.Needs.{needs}
 use Rattle.meaning.specs.Names.{partPasses}
 use Rattle.text.proofs.Rows.{row}
-use borrow.Author.Needs.{needs}
 use Rattle.name.proofs.part_passes.Statement.{statement}
 use Rattle.name.proofs.part_passes.Tie as tie
 

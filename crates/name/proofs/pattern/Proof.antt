@@ -6,37 +6,25 @@ use Rattle.name.proofs.pattern.Statement.{statement}
 use Rattle.name.proofs.pattern.Tie as tie
 
 returns : tie.Need-returns
-returns c = rw side-row (search (fail-empty, pass-empty, fail-if-not, pass-if-not))
+returns c = rw side-row (search fail-empty)
 
 parts-pass-requires : tie.Need-parts-pass-requires
 parts-pass-requires c κs = search needs
 
 returns-2 : tie.Need-returns-2
-returns-2 c = rw side-row (search (fail-empty, pass-empty, fail-if-not, pass-if-not))
-
-dots-pass-requires : tie.Need-dots-pass-requires
-dots-pass-requires c κs = search needs
-
-returns-3 : tie.Need-returns-3
-returns-3 c = rw side-row (search (fail-empty, pass-empty, fail-if-not, pass-if-not))
+returns-2 c = rw side-row (search (pass-empty, fail-if-not))
 
 bytes-pass-requires : tie.Need-bytes-pass-requires
 bytes-pass-requires c κs = search needs
 
+returns-3 : tie.Need-returns-3
+returns-3 c = rw side-row (search (pass-empty, pass-if-not, fail-if-not))
+
+end-passes-requires : tie.Need-end-passes-requires
+end-passes-requires c κs = search needs
+
 returns-4 : tie.Need-returns-4
-returns-4 c = rw side-row (search (fail-empty, pass-empty, fail-if-not, pass-if-not))
-
-slashes-pass-requires : tie.Need-slashes-pass-requires
-slashes-pass-requires c κs = search needs
-
-returns-5 : tie.Need-returns-5
-returns-5 c = rw side-row (search (fail-empty, pass-empty, fail-if-not, pass-if-not))
-
-at-passes-requires : tie.Need-at-passes-requires
-at-passes-requires c κs = search needs
-
-returns-6 : tie.Need-returns-6
-returns-6 c = rw side-row (search (fail-empty, pass-empty, fail-if-not, pass-if-not))
+returns-4 c = rw side-row (search (pass-empty, pass-if-not))
 
 pub pattern-spec : {M : Type 1} → statement M
 pattern-spec =
@@ -45,11 +33,7 @@ pattern-spec =
     returns
     parts-pass-requires
     returns-2
-    dots-pass-requires
-    returns-3
     bytes-pass-requires
-    returns-4
-    slashes-pass-requires
-    returns-5
-    at-passes-requires
-    returns-6)
+    returns-3
+    end-passes-requires
+    returns-4)

@@ -1,11 +1,11 @@
 -- `text::all_hex` meets its contract: what is left of the text decides as the whole does.
 use mathlib.Core.Path.{_≡_, refl}
 use Prim.Native.Nat.{_≤_, _-_}
-use lib.ListN.{length, drop}
 use native.Mathlib.Omega.{arith}
+use borrow.Author.Needs.{needs}
+use lib.ListN.{length, drop}
 use Rattle.meaning.specs.Bytes.{every, hexDigit}
 use Rattle.text.proofs.Scans.{every-fails, every-more, every-done}
-use borrow.Author.Needs.{needs}
 use Rattle.text.proofs.all_hex.Statement.{statement}
 use Rattle.text.proofs.all_hex.Tie as tie
 

@@ -1,6 +1,6 @@
 -- `text::ends` meets its contract: the last bytes of s, as many as p has, begin with p.
-use Rattle.text.proofs.Sames.{ends-by-begins, ends-never}
 use borrow.Author.Needs.{needs}
+use Rattle.text.proofs.Sames.{ends-by-begins, ends-never}
 use Rattle.text.proofs.ends.Statement.{statement}
 use Rattle.text.proofs.ends.Tie as tie
 

@@ -1,6 +1,6 @@
 -- `text::has_byte` meets its contract: a byte stands in the text where its first place is before the end.
-use Rattle.text.proofs.Scans.{byte-found}
 use borrow.Author.Needs.{needs}
+use Rattle.text.proofs.Scans.{byte-found}
 use Rattle.text.proofs.has_byte.Statement.{statement}
 use Rattle.text.proofs.has_byte.Tie as tie
 

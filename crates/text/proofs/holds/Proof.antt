@@ -1,11 +1,11 @@
 -- `text::holds` meets its contract: what is left of the text decides as the whole does.
-use Rattle.text.proofs.Scans.{holds-here, holds-more, holds-none}
 use mathlib.Core.Path.{_≡_, refl}
 use Prim.Native.Nat.{_≤_, _-_}
-use lib.ListN.{length, drop}
 use native.Mathlib.Omega.{arith}
-use Rattle.meaning.specs.Bytes.{holds}
 use borrow.Author.Needs.{needs}
+use lib.ListN.{length, drop}
+use Rattle.meaning.specs.Bytes.{holds}
+use Rattle.text.proofs.Scans.{holds-here, holds-more, holds-none}
 use Rattle.text.proofs.holds.Statement.{statement}
 use Rattle.text.proofs.holds.Tie as tie
 

@@ -1,7 +1,7 @@
 -- `text::object_id` meets its contract: the length is asked first, then every byte.
+use borrow.Author.Needs.{needs}
 use Rattle.meaning.specs.Bytes.{objectId}
 use Rattle.text.proofs.Rows.{row}
-use borrow.Author.Needs.{needs}
 use Rattle.text.proofs.object_id.Statement.{statement}
 use Rattle.text.proofs.object_id.Tie as tie
 

@@ -1,6 +1,6 @@
 -- `text::put_byte` meets its contract: one store is the splice of one byte.
-use Rattle.text.proofs.Splices.{splice-byte}
 use borrow.Author.Needs.{needs}
+use Rattle.text.proofs.Splices.{splice-byte}
 use Rattle.text.proofs.put_byte.Statement.{statement}
 use Rattle.text.proofs.put_byte.Tie as tie
 
