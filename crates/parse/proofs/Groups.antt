@@ -1,11 +1,11 @@
 -- The groups of questions, one after the other, are the meaning's list. Assumes nothing.
-use Prim.Native.Nat.{ℕ, zero, suc}
-use mathlib.Core.Path.{_≡_, refl, sym, ap, _∙_}
+use Prim.Native.Nat.{ℕ, suc}
+use mathlib.Core.Path.{_≡_, refl}
 use mathlib.Core.Bool.{Bool, true, false, not}
 use mathlib.Core.Option.{Option, none, some}
-use Rattle.meaning.specs.Bytes.{Text, _and_, _or_, empty, present, absent, ifGiven}
+use Rattle.meaning.specs.Bytes.{Text, _and_, _or_, present, absent, ifGiven}
 use Rattle.meaning.specs.Names.{sidePasses}
-use Rattle.meaning.specs.Spec.{_else_then_, Mode, Spec, isNegative, push, starred, hasStar, atMostOneStar, notHashLike, exempt, starsAgree, sidesRefusal, specRefusal, hasColon, sidesOf, unsigned, specOf}
+use Rattle.meaning.specs.Spec.{_else_then_, Spec, isNegative, push, starred, atMostOneStar, exempt, starsAgree, sidesRefusal, specRefusal, hasColon, sidesOf, unsigned, specOf}
 use Rattle.parse.specs.Questions.{_orElse_, entryRefusal, shapeRefusal, textRefusal, sideRefusal, negativeRefusal}
 
 -- questions that end in 0 before other questions

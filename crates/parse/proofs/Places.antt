@@ -1,27 +1,22 @@
 -- The places of a spec's sides stand within the spec, and denote the texts of the meaning. Assumes nothing.
-use Prim.Native.Nat.{ℕ, zero, suc, _+_, _-_, _≤_, _<_}
-use native.Mathlib.Nat.{suc-ne-zero}
+use Prim.Native.Nat.{ℕ, zero, suc, _+_, _≤_}
 use native.Mathlib.Omega.{arith}
 use mathlib.Core.Path.{_≡_, refl, sym, ap, _∙_}
 use mathlib.Core.Bool.{Bool, true, false, not, cond}
-use mathlib.Core.List.{List, [], _∷_, _++_}
-use mathlib.Core.Option.{Option, none, some}
+use mathlib.Core.List.{[], _∷_, _++_}
+use mathlib.Core.Option.{none, some}
 use native.Mathlib.Nat.{add-suc}
 use native.Mathlib.Numerals.{add-one}
-use borrow.Author.Tests.{eq-eqb, ne-eqb, eqb-true}
+use borrow.Author.Tests.{eqb-true}
 use lib.Dec.{eqb}
-use lib.ListN.{length, getD, take, drop, length-append, length-take, length-drop}
+use lib.ListN.{length, take, drop, length-append, length-drop}
 use lib.Seq.{take-append-seam, drop-append-add, drop-drop, take-all}
-use Rattle.meaning.specs.Bytes.{Text, bytes, colon, caret, plus, _and_, same, given, present}
-use Rattle.meaning.specs.Spec.{Mode, Normal, Force, Negative, Spec, Sides, one, two, isNegative, modeOfByte, modeOf, signOff, unsigned, sidesNext, sidesOf, hasColon, left, right, supplied, named, sourceOf, specFrom, specOf, specRefusal, readSpec, unless, Answer, accepted, refused}
-use Rattle.parse.specs.declared.types.Mode as code-mode
-use Rattle.parse.specs.declared.types.Side.{Side}
+use Rattle.meaning.specs.Bytes.{Text, bytes, colon, _and_, same, given}
+use Rattle.meaning.specs.Spec.{Mode, Normal, Force, Negative, Sides, one, two, isNegative, modeOfByte, modeOf, signOff, unsigned, sidesNext, sidesOf, left, right, supplied, named, sourceOf, specFrom, specOf, specRefusal, readSpec, unless, accepted}
 use Rattle.parse.specs.declared.types.Side.the-variants.{Absent, Part, Head}
-use Rattle.parse.specs.declared.types.RefSpec.{RefSpec}
-use Rattle.parse.specs.declared.Parsed.{Parsed}
-use Rattle.parse.specs.declared.Parsed.the-variants as answers
-use Rattle.parse.specs.Places.{modeMeant, modeCase, partAt, sideMeant, isPresent, Within, SidesWithin, specMeant, signLength, placed, suppliedPlace, namedPlace, sourcePlace, placesAt, placesOf, parsedUnless, parsed, parsedMeant}
+use Rattle.parse.specs.Places.{modeMeant, modeCase, partAt, sideMeant, Within, SidesWithin, specMeant, signLength, placed, suppliedPlace, namedPlace, sourcePlace, placesAt, placesOf, parsedUnless, parsed, parsedMeant}
 
+-- a text with a byte is not empty
 cons-not-nil : (x : ℕ) (u : Text) → x ∷ u ≡ [] → ⊥
 cons-not-nil x u e = let z : suc (length u) ≡ 0 = ap length e in omega arith
 
@@ -31,12 +26,13 @@ mode-meant Normal = refl
 mode-meant Force = refl
 mode-meant Negative = refl
 
--- the sign taken off is its bytes dropped
+-- taking a sign off drops its bytes
 sign-off : (m : Mode) (x : ℕ) (t : Text) → signOff m x t ≡ drop (signLength m) (x ∷ t)
 sign-off Normal x t = refl
 sign-off Force x t = refl
 sign-off Negative x t = refl
 
+-- a text without its sign is what follows its sign's bytes
 pub unsigned-drop : (t : Text) → unsigned t ≡ drop (signLength (modeOf t)) t
 unsigned-drop [] = refl
 unsigned-drop (x ∷ t) = sign-off (modeOfByte x) x t
@@ -81,6 +77,7 @@ joined-length : (d : Sides) (x : ℕ) (u : Text) → right d ≡ x ∷ u → len
 joined-length (one t) x u e = absurd (cons-not-nil x u (sym e))
 joined-length (two s t) x u e = length-append s (colon ∷ t) ∙ omega arith
 
+-- the left side is no longer than the text
 left-length : (d : Sides) → length (left d) ≤ length (joined d)
 left-length (one t) = omega arith
 left-length (two s t) = omega (arith, length-append s (colon ∷ t))

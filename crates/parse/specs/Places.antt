@@ -1,7 +1,7 @@
 -- A refspec as places in its bytes, and the texts that the places denote.
 use Prim.Native.Nat.{ℕ, zero, suc, _+_, _≤_}
 use mathlib.Core.Bool.{Bool, true, false, not, cond}
-use mathlib.Core.List.{List, [], _∷_}
+use mathlib.Core.List.{[], _∷_}
 use mathlib.Core.Option.{Option, none, some}
 use lib.Dec.{eqb}
 use lib.ListN.{length, take, drop}
@@ -49,7 +49,7 @@ Within len Absent = Unit {0}
 Within len (Part at n) = at + n ≤ len
 Within len Head = Unit {0}
 
--- both sides do
+-- both sides of a spec stand within so many bytes
 pub record SidesWithin (len : ℕ) (r : RefSpec) : Type 0 where
   pub src-within : Within len (r .src)
   pub dst-within : Within len (r .dst)

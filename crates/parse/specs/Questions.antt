@@ -1,7 +1,7 @@
--- Document 01's questions on one spec in the groups that the code asks them. proofs/Groups.antt shows that these groups, one after
+-- Document 01's questions on one spec in the groups in which the code asks them. proofs/Groups.antt shows that these groups, one after
 -- the other, are the list of the meaning, `specRefusal`.
 use Prim.Native.Nat.{ℕ, zero, suc}
-use mathlib.Core.Bool.{Bool, true, false, not}
+use mathlib.Core.Bool.{Bool, not}
 use mathlib.Core.Option.{Option, none, some}
 use lib.Dec.{leb}
 use lib.ListN.{length}
@@ -38,7 +38,7 @@ textRefusal first free t =
     ((free and not (starred t)) or sidePasses t) else suc first then
     0
 
--- the same of a side that may be absent
+-- 5 and 6, or 7 and 8, asked of a side that may be absent
 abbrev pub sideRefusal : ℕ → Bool → Option Text → ℕ
 sideRefusal first free none = 0
 sideRefusal first free (some t) = textRefusal first free t

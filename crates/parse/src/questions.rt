@@ -1,6 +1,6 @@
-// Document 01's questions on one spec, in their order: each function answers the number of the first that refuses, or 0.
+// Document 01's questions on one spec, in their order: a `.._refusal` answers the number of the first that refuses, or 0.
 ghost use mathlib.Core.Path.{_≡_};
-ghost use mathlib.Core.Bool.{Bool, true, false, not};
+ghost use mathlib.Core.Bool.{true, false, not};
 ghost use Prim.Native.Nat.{_+_, _≤_, _<_};
 ghost use lib.ListN.{length};
 ghost use Rattle.meaning.specs.Bytes.{_and_, _or_, ifGiven};
@@ -94,7 +94,7 @@ fn text_refusal(first: u64, free: bool, t: &[u8]) -> u64
     }
 }
 
-// The same of the n bytes that begin at `at`.
+// Questions 5 and 6, or 7 and 8, of the n bytes that begin at `at`.
 fn part_refusal(first: u64, free: bool, spec: &[u8], at: usize, n: usize) -> u64
     requires { ⌜ (first < 100) × (at + n ≤ length (now spec)) ⌝ }
     ensures { λ r. ⌜ r ≡ textRefusal first free (partAt (now (spec .entry)) at n) ⌝ }
@@ -103,7 +103,7 @@ fn part_refusal(first: u64, free: bool, spec: &[u8], at: usize, n: usize) -> u64
     text_refusal(first, free, &spec[at..end])
 }
 
-// The same of a side; an absent one and the supplied `HEAD` pass.
+// Questions 5 and 6, or 7 and 8, of a side; an absent one and `HEAD` pass.
 fn side_refusal(first: u64, free: bool, spec: &[u8], side: Side) -> u64
     requires { ⌜ (first < 100) × Within (length (now spec)) side ⌝ }
     ensures { λ r. ⌜ r ≡ sideRefusal first free (sideMeant (now (spec .entry)) side) ⌝ }
@@ -115,7 +115,7 @@ fn side_refusal(first: u64, free: bool, spec: &[u8], side: Side) -> u64
     }
 }
 
-// A push source with a destination skips the name rules where it has no star.
+// A push with a destination: its source, where it has no star, skips the name rules.
 fn skips_rules(op: u64, dst: Side) -> bool
     ensures { λ r. ⌜ r ≡ (push op and isPresent dst) ⌝ }
 {
@@ -134,7 +134,7 @@ fn part_has_star(spec: &[u8], at: usize, n: usize) -> bool
     text::has_byte(&spec[at..end], b'*')
 }
 
-// A star stands in a side.
+// A star stands in a side; an absent one has none.
 fn has_star(spec: &[u8], side: Side) -> bool
     requires { ⌜ Within (length (now spec)) side ⌝ }
     ensures { λ r. ⌜ r ≡ hasStar (sideMeant (now (spec .entry)) side) ⌝ }
@@ -195,7 +195,7 @@ fn part_like_hash(spec: &[u8], at: usize, n: usize) -> bool
     looks_like_object_hash(&spec[at..end])
 }
 
-// Question 11 of a source: refused if it looks like an object hash.
+// A source looks like an object hash, which question 11 refuses.
 fn source_like_hash(spec: &[u8], src: Side) -> bool
     requires { ⌜ Within (length (now spec)) src ⌝ }
     ensures { λ r. ⌜ not r ≡ ifGiven notHashLike (sideMeant (now (spec .entry)) src) ⌝ }
@@ -236,7 +236,8 @@ pub(crate) fn sides_refusal(op: u64, colon: bool, spec: &[u8], r: RefSpec) -> u6
     if shape != 0 {
         return shape;
     }
-    let source = side_refusal(5, skips_rules(op, dst), spec, src);
+    let free = skips_rules(op, dst);
+    let source = side_refusal(5, free, spec, src);
     if source != 0 {
         return source;
     }

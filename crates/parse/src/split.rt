@@ -9,7 +9,7 @@ use super::types::RefSpec;
 use super::types::Side;
 use super::types::is_negative;
 
-// The sides of a spec, and whether a colon stands between them.
+// The places of a spec, and whether a colon parts its sides.
 pub(crate) struct Sides {
     pub spec: RefSpec,
     pub colon: bool,
@@ -53,7 +53,7 @@ fn supplied(op: u64, m: Mode) -> Side
     Side::Head
 }
 
-// The place of a source of n bytes that begins at `at`; `@` is the supplied `HEAD`.
+// The place of a source of n bytes that begins at `at`; one without bytes may be supplied, and `@` is `HEAD`.
 fn source_place(op: u64, m: Mode, spec: &[u8], at: usize, n: usize) -> Side
     requires { ⌜ at + n ≤ length (now spec) ⌝ }
     ensures { λ r. ⌜ r ≡ sourcePlace op (modeMeant m) at (partAt (now (spec .entry)) at n) ⌝ }

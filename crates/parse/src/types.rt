@@ -1,6 +1,5 @@
 // The way to interpret a refspec, and a refspec as places in its bytes. Port of the crate's types.rs and of its record in lib.rs.
 ghost use mathlib.Core.Path.{_≡_};
-ghost use mathlib.Core.Bool.{Bool};
 ghost use Rattle.meaning.specs.Spec.{isNegative};
 ghost use Rattle.parse.specs.Places.{modeMeant, isPresent};
 
@@ -11,7 +10,7 @@ pub enum Mode {
     Negative,
 }
 
-// Where a side of a spec stands: nowhere, at a start with a length in the spec's bytes, or nowhere in them because `HEAD` is supplied.
+// Where a side of a spec stands: absent, a start and a length in the spec's bytes, or `HEAD`, which the bytes do not spell.
 pub enum Side {
     Absent,
     Part(usize, usize),

@@ -3,11 +3,6 @@ use Rattle.parse.proofs.Reading.{parse-early, parse-late, parse-accepte
 use borrow.Author.Needs.{needs}
 use Rattle.parse.proofs.parse.Statement.{statement}
 use Rattle.parse.proofs.parse.Tie as tie
-use Rattle.parse.proofs.parse.Reads as reads
-use Rattle.parse.proofs.parse.Lts as lts
-use Rattle.parse.proofs.questions.entry_refusal.Reads as entry-refusal-reads
-use Rattle.parse.proofs.questions.sides_refusal.Reads as sides-refusal-reads
-use Rattle.parse.proofs.split.split.Reads as split-reads
 
 entry-refusal-requires : tie.Need-entry-refusal-requires
 entry-refusal-requires c κs = search needs

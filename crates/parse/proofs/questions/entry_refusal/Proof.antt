@@ -1,9 +1,7 @@
 -- Each branch is one of the questions 18, 1 and 2, answered no in its turn. Assumes nothing.
-use Rattle.parse.proofs.Reading.{entry-18, entry-1, entry-2, entry-push, entry-fetch}
+use Rattle.parse.proofs.Order.{entry-18, entry-1, entry-2, entry-push, entry-fetch}
 use Rattle.parse.proofs.questions.entry_refusal.Statement.{statement}
 use Rattle.parse.proofs.questions.entry_refusal.Tie as tie
-use Rattle.parse.proofs.questions.entry_refusal.Reads as reads
-use Rattle.parse.proofs.questions.entry_refusal.Lts as lts
 
 returns : tie.Need-returns
 returns c = search entry-18

@@ -1,11 +1,9 @@
 -- A part is looked through, and neither an absent side nor `HEAD` has a star. Assumes nothing.
-use Rattle.parse.proofs.Reading.{part-within, star-part, star-head}
+use Rattle.parse.proofs.Parts.{part-within}
+use Rattle.parse.proofs.Sides.{star-part, star-head}
 use borrow.Author.Needs.{needs}
 use Rattle.parse.proofs.questions.has_star.Statement.{statement}
 use Rattle.parse.proofs.questions.has_star.Tie as tie
-use Rattle.parse.proofs.questions.has_star.Reads as reads
-use Rattle.parse.proofs.questions.has_star.Lts as lts
-use Rattle.parse.proofs.questions.part_has_star.Reads as part-has-star-reads
 
 enum-told : tie.Need-enum-told
 enum-told c = search needs

@@ -4,9 +4,6 @@ use Rattle.meaning.specs.Spec.{hashLike}
 use borrow.Author.Needs.{needs}
 use Rattle.parse.proofs.questions.looks_like_object_hash.Statement.{statement}
 use Rattle.parse.proofs.questions.looks_like_object_hash.Tie as tie
-use Rattle.parse.proofs.questions.looks_like_object_hash.Reads as reads
-use Rattle.parse.proofs.questions.looks_like_object_hash.Lts as lts
-use Rattle.text.proofs.all_hex.Reads as all-hex-reads
 
 returns : tie.Need-returns
 unfolding hashLike

@@ -1,11 +1,8 @@
 -- A free text and one that passes the name rules are not refused. Assumes nothing.
-use Rattle.parse.proofs.Reading.{name-yes, name-no}
+use Rattle.parse.proofs.Sides.{name-yes, name-no}
 use borrow.Author.Needs.{needs}
 use Rattle.parse.proofs.questions.name_refusal.Statement.{statement}
 use Rattle.parse.proofs.questions.name_refusal.Tie as tie
-use Rattle.parse.proofs.questions.name_refusal.Reads as reads
-use Rattle.parse.proofs.questions.name_refusal.Lts as lts
-use Rattle.name.proofs.name_partial.Reads as name-partial-reads
 
 returns : tie.Need-returns
 returns c = search needs

@@ -1,13 +1,8 @@
 -- Each branch is one of the questions 10 and 11, answered in its turn. Assumes nothing.
-use Rattle.parse.proofs.Reading.{negative-none, negative-10, negative-11, negative-0}
+use Rattle.parse.proofs.Order.{negative-none, negative-10, negative-11, negative-0}
 use borrow.Author.Needs.{needs}
 use Rattle.parse.proofs.questions.negative_refusal.Statement.{statement}
 use Rattle.parse.proofs.questions.negative_refusal.Tie as tie
-use Rattle.parse.proofs.questions.negative_refusal.Reads as reads
-use Rattle.parse.proofs.questions.negative_refusal.Lts as lts
-use Rattle.parse.proofs.types.is_negative.Reads as is-negative-reads
-use Rattle.parse.proofs.types.is_present.Reads as is-present-reads
-use Rattle.parse.proofs.questions.source_like_hash.Reads as source-like-hash-reads
 
 is-negative-requires : tie.Need-is-negative-requires
 is-negative-requires c κs = search needs

@@ -3,9 +3,6 @@ use Rattle.parse.proofs.Eval.{value}
 use borrow.Author.Needs.{needs}
 use Rattle.parse.proofs.questions.one_sided.Statement.{statement}
 use Rattle.parse.proofs.questions.one_sided.Tie as tie
-use Rattle.parse.proofs.questions.one_sided.Reads as reads
-use Rattle.parse.proofs.questions.one_sided.Lts as lts
-use Rattle.parse.proofs.types.is_present.Reads as is-present-reads
 
 is-present-requires : tie.Need-is-present-requires
 is-present-requires c κs = search needs

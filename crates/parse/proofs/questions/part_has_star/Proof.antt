@@ -1,12 +1,9 @@
 -- The part that is lent is the bytes from the place on. Assumes nothing.
 use Rattle.meaning.specs.Spec.{starred}
-use Rattle.parse.proofs.Reading.{part-of}
+use Rattle.parse.proofs.Parts.{part-of}
 use borrow.Author.Needs.{needs}
 use Rattle.parse.proofs.questions.part_has_star.Statement.{statement}
 use Rattle.parse.proofs.questions.part_has_star.Tie as tie
-use Rattle.parse.proofs.questions.part_has_star.Reads as reads
-use Rattle.parse.proofs.questions.part_has_star.Lts as lts
-use Rattle.text.proofs.has_byte.Reads as has-byte-reads
 
 add-end : tie.Need-add-end
 add-end c = search needs

@@ -1,11 +1,8 @@
 -- The part that is lent is the bytes from the place on. Assumes nothing.
-use Rattle.parse.proofs.Reading.{part-of}
+use Rattle.parse.proofs.Parts.{part-of}
 use borrow.Author.Needs.{needs}
 use Rattle.parse.proofs.questions.part_like_hash.Statement.{statement}
 use Rattle.parse.proofs.questions.part_like_hash.Tie as tie
-use Rattle.parse.proofs.questions.part_like_hash.Reads as reads
-use Rattle.parse.proofs.questions.part_like_hash.Lts as lts
-use Rattle.parse.proofs.questions.looks_like_object_hash.Reads as looks-like-object-hash-reads
 
 add-end : tie.Need-add-end
 add-end c = search needs

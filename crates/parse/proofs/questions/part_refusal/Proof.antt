@@ -1,11 +1,8 @@
 -- The part that is lent is the bytes from the place on. Assumes nothing.
-use Rattle.parse.proofs.Reading.{part-of}
+use Rattle.parse.proofs.Parts.{part-of}
 use borrow.Author.Needs.{needs}
 use Rattle.parse.proofs.questions.part_refusal.Statement.{statement}
 use Rattle.parse.proofs.questions.part_refusal.Tie as tie
-use Rattle.parse.proofs.questions.part_refusal.Reads as reads
-use Rattle.parse.proofs.questions.part_refusal.Lts as lts
-use Rattle.parse.proofs.questions.text_refusal.Reads as text-refusal-reads
 
 add-end : tie.Need-add-end
 add-end c = search needs

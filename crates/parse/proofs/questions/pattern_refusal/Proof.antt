@@ -1,11 +1,8 @@
 -- A pattern that passes is not refused. Assumes nothing.
-use Rattle.parse.proofs.Reading.{pattern-yes, pattern-no}
+use Rattle.parse.proofs.Sides.{pattern-yes, pattern-no}
 use borrow.Author.Needs.{needs}
 use Rattle.parse.proofs.questions.pattern_refusal.Statement.{statement}
 use Rattle.parse.proofs.questions.pattern_refusal.Tie as tie
-use Rattle.parse.proofs.questions.pattern_refusal.Reads as reads
-use Rattle.parse.proofs.questions.pattern_refusal.Lts as lts
-use Rattle.name.proofs.pattern.Reads as pattern-reads
 
 pattern-requires : tie.Need-pattern-requires
 pattern-requires c κs = search needs

@@ -1,14 +1,10 @@
 -- Each branch is one of the questions 3 and 4, answered in its turn. Assumes nothing.
-use Rattle.parse.proofs.Reading.{shape-4, shape-both}
+use Rattle.parse.proofs.Order.{shape-4, shape-both}
 use Rattle.parse.proofs.Eval.{eval}
 use Rattle.parse.specs.Questions.{shapeRefusal}
 use borrow.Author.Needs.{needs}
 use Rattle.parse.proofs.questions.shape_refusal.Statement.{statement}
 use Rattle.parse.proofs.questions.shape_refusal.Tie as tie
-use Rattle.parse.proofs.questions.shape_refusal.Reads as reads
-use Rattle.parse.proofs.questions.shape_refusal.Lts as lts
-use Rattle.parse.proofs.types.is_negative.Reads as is-negative-reads
-use Rattle.parse.proofs.types.is_present.Reads as is-present-reads
 
 is-negative-requires : tie.Need-is-negative-requires
 is-negative-requires c κs = search needs

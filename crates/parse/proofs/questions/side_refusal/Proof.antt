@@ -1,11 +1,9 @@
 -- Each arm is one kind of side. Assumes nothing.
-use Rattle.parse.proofs.Reading.{part-within, side-part, side-head}
+use Rattle.parse.proofs.Parts.{part-within}
+use Rattle.parse.proofs.Sides.{side-part, side-head}
 use borrow.Author.Needs.{needs}
 use Rattle.parse.proofs.questions.side_refusal.Statement.{statement}
 use Rattle.parse.proofs.questions.side_refusal.Tie as tie
-use Rattle.parse.proofs.questions.side_refusal.Reads as reads
-use Rattle.parse.proofs.questions.side_refusal.Lts as lts
-use Rattle.parse.proofs.questions.part_refusal.Reads as part-refusal-reads
 
 enum-told : tie.Need-enum-told
 enum-told c = search needs

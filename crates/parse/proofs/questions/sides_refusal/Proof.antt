@@ -1,15 +1,8 @@
 -- Each branch is the first group of questions that refuses. Assumes nothing.
-use Rattle.parse.proofs.Reading.{sides-shape, sides-source, sides-destination, sides-stars, sides-negative}
+use Rattle.parse.proofs.Order.{sides-shape, sides-source, sides-destination, sides-stars, sides-negative}
 use borrow.Author.Needs.{needs}
 use Rattle.parse.proofs.questions.sides_refusal.Statement.{statement}
 use Rattle.parse.proofs.questions.sides_refusal.Tie as tie
-use Rattle.parse.proofs.questions.sides_refusal.Reads as reads
-use Rattle.parse.proofs.questions.sides_refusal.Lts as lts
-use Rattle.parse.proofs.questions.negative_refusal.Reads as negative-refusal-reads
-use Rattle.parse.proofs.questions.shape_refusal.Reads as shape-refusal-reads
-use Rattle.parse.proofs.questions.side_refusal.Reads as side-refusal-reads
-use Rattle.parse.proofs.questions.skips_rules.Reads as skips-rules-reads
-use Rattle.parse.proofs.questions.stars_agree.Reads as stars-agree-reads
 
 shape-refusal-requires : tie.Need-shape-refusal-requires
 shape-refusal-requires c κs = search needs

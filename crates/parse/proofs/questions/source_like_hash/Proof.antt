@@ -1,11 +1,9 @@
 -- A part is looked through, and neither an absent side nor `HEAD` is one. Assumes nothing.
-use Rattle.parse.proofs.Reading.{part-within, hash-part, hash-head}
+use Rattle.parse.proofs.Parts.{part-within}
+use Rattle.parse.proofs.Sides.{hash-part, hash-head}
 use borrow.Author.Needs.{needs}
 use Rattle.parse.proofs.questions.source_like_hash.Statement.{statement}
 use Rattle.parse.proofs.questions.source_like_hash.Tie as tie
-use Rattle.parse.proofs.questions.source_like_hash.Reads as reads
-use Rattle.parse.proofs.questions.source_like_hash.Lts as lts
-use Rattle.parse.proofs.questions.part_like_hash.Reads as part-like-hash-reads
 
 enum-told : tie.Need-enum-told
 enum-told c = search needs

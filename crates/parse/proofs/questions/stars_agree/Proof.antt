@@ -1,13 +1,8 @@
 -- Each branch is a reason not to ask question 9, or its answer. Assumes nothing.
-use Rattle.parse.proofs.Reading.{agree-negative, agree-one-sided, agree-star, agree-plain}
+use Rattle.parse.proofs.Order.{agree-negative, agree-one-sided, agree-star, agree-plain}
 use borrow.Author.Needs.{needs}
 use Rattle.parse.proofs.questions.stars_agree.Statement.{statement}
 use Rattle.parse.proofs.questions.stars_agree.Tie as tie
-use Rattle.parse.proofs.questions.stars_agree.Reads as reads
-use Rattle.parse.proofs.questions.stars_agree.Lts as lts
-use Rattle.parse.proofs.questions.has_star.Reads as has-star-reads
-use Rattle.parse.proofs.types.is_negative.Reads as is-negative-reads
-use Rattle.parse.proofs.questions.one_sided.Reads as one-sided-reads
 
 is-negative-requires : tie.Need-is-negative-requires
 is-negative-requires c κs = search needs

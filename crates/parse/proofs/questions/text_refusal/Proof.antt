@@ -1,13 +1,8 @@
 -- The number of stars decides which question is asked. Assumes nothing.
-use Rattle.parse.proofs.Reading.{text-plain, text-pattern, text-stars}
+use Rattle.parse.proofs.Sides.{text-plain, text-pattern, text-stars}
 use borrow.Author.Needs.{needs}
 use Rattle.parse.proofs.questions.text_refusal.Statement.{statement}
 use Rattle.parse.proofs.questions.text_refusal.Tie as tie
-use Rattle.parse.proofs.questions.text_refusal.Reads as reads
-use Rattle.parse.proofs.questions.text_refusal.Lts as lts
-use Rattle.parse.proofs.questions.name_refusal.Reads as name-refusal-reads
-use Rattle.parse.proofs.questions.pattern_refusal.Reads as pattern-refusal-reads
-use Rattle.text.proofs.count.Reads as count-reads
 
 add-next : tie.Need-add-next
 add-next c = search needs

@@ -1,10 +1,8 @@
 -- No byte left is an absent side, any other rest has its place. Assumes nothing.
-use Rattle.parse.proofs.Reading.{destination-empty, destination-part}
+use Rattle.parse.proofs.Splits.{destination-empty, destination-part}
 use borrow.Author.Needs.{needs}
 use Rattle.parse.proofs.split.destination_place.Statement.{statement}
 use Rattle.parse.proofs.split.destination_place.Tie as tie
-use Rattle.parse.proofs.split.destination_place.Reads as reads
-use Rattle.parse.proofs.split.destination_place.Lts as lts
 
 sub-n : tie.Need-sub-n
 sub-n c = search needs

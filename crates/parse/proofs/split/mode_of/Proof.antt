@@ -1,10 +1,8 @@
 -- The first byte decides, and a text without one has no sign. Assumes nothing.
-use Rattle.parse.proofs.Reading.{mode-empty, mode-negative, mode-force, mode-normal}
+use Rattle.parse.proofs.Splits.{mode-empty, mode-negative, mode-force, mode-normal}
 use borrow.Author.Needs.{needs}
 use Rattle.parse.proofs.split.mode_of.Statement.{statement}
 use Rattle.parse.proofs.split.mode_of.Tie as tie
-use Rattle.parse.proofs.split.mode_of.Reads as reads
-use Rattle.parse.proofs.split.mode_of.Lts as lts
 
 returns : tie.Need-returns
 returns c = search mode-empty

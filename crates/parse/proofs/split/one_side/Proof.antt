@@ -1,11 +1,8 @@
 -- The source takes all that follows the sign. Assumes nothing.
-use Rattle.parse.proofs.Reading.{one-side-is}
+use Rattle.parse.proofs.Splits.{one-side-is}
 use borrow.Author.Needs.{needs}
 use Rattle.parse.proofs.split.one_side.Statement.{statement}
 use Rattle.parse.proofs.split.one_side.Tie as tie
-use Rattle.parse.proofs.split.one_side.Reads as reads
-use Rattle.parse.proofs.split.one_side.Lts as lts
-use Rattle.parse.proofs.split.source_place.Reads as source-place-reads
 
 sub-source-place : tie.Need-sub-source-place
 sub-source-place c = search needs

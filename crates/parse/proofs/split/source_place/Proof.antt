@@ -1,12 +1,8 @@
 -- A source without bytes is supplied, `@` is `HEAD`, any other has its place. Assumes nothing.
-use Rattle.parse.proofs.Reading.{source-empty, source-at, source-part}
+use Rattle.parse.proofs.Splits.{source-empty, source-at, source-part}
 use borrow.Author.Needs.{needs}
 use Rattle.parse.proofs.split.source_place.Statement.{statement}
 use Rattle.parse.proofs.split.source_place.Tie as tie
-use Rattle.parse.proofs.split.source_place.Reads as reads
-use Rattle.parse.proofs.split.source_place.Lts as lts
-use Rattle.parse.proofs.split.supplied.Reads as supplied-reads
-use Rattle.text.proofs.same.Reads as same-reads
 
 supplied-requires : tie.Need-supplied-requires
 supplied-requires c κs = search needs

@@ -1,16 +1,9 @@
 -- What follows the sign has its sides where its last colon is. Assumes nothing.
 use native.Mathlib.Omega.{arith}
-use Rattle.parse.proofs.Reading.{sign-fits, split-fits, split-one, no-colon, split-two, a-colon}
+use Rattle.parse.proofs.Splits.{sign-fits, split-fits, split-one, no-colon, split-two, a-colon}
 use borrow.Author.Needs.{needs}
 use Rattle.parse.proofs.split.split.Statement.{statement}
 use Rattle.parse.proofs.split.split.Tie as tie
-use Rattle.parse.proofs.split.split.Reads as reads
-use Rattle.parse.proofs.split.split.Lts as lts
-use Rattle.parse.proofs.split.mode_of.Reads as mode-of-reads
-use Rattle.parse.proofs.split.one_side.Reads as one-side-reads
-use Rattle.parse.proofs.split.sign_length.Reads as sign-length-reads
-use Rattle.parse.proofs.split.two_sides.Reads as two-sides-reads
-use Rattle.text.proofs.past_last.Reads as past-last-reads
 
 mode-of-requires : tie.Need-mode-of-requires
 mode-of-requires c κs = search needs

@@ -1,11 +1,8 @@
 -- `HEAD` is supplied in fetch, unless negative. Assumes nothing.
-use Rattle.parse.proofs.Reading.{supplied-push, supplied-negative, supplied-head}
+use Rattle.parse.proofs.Splits.{supplied-push, supplied-negative, supplied-head}
 use borrow.Author.Needs.{needs}
 use Rattle.parse.proofs.split.supplied.Statement.{statement}
 use Rattle.parse.proofs.split.supplied.Tie as tie
-use Rattle.parse.proofs.split.supplied.Reads as reads
-use Rattle.parse.proofs.split.supplied.Lts as lts
-use Rattle.parse.proofs.types.is_negative.Reads as is-negative-reads
 
 returns : tie.Need-returns
 returns c = search supplied-push

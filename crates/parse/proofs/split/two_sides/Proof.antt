@@ -1,12 +1,8 @@
 -- The source ends before the last colon, and the destination begins after it. Assumes nothing.
-use Rattle.parse.proofs.Reading.{two-sides-is}
+use Rattle.parse.proofs.Splits.{two-sides-is}
 use borrow.Author.Needs.{needs}
 use Rattle.parse.proofs.split.two_sides.Statement.{statement}
 use Rattle.parse.proofs.split.two_sides.Tie as tie
-use Rattle.parse.proofs.split.two_sides.Reads as reads
-use Rattle.parse.proofs.split.two_sides.Lts as lts
-use Rattle.parse.proofs.split.destination_place.Reads as destination-place-reads
-use Rattle.parse.proofs.split.source_place.Reads as source-place-reads
 
 sub-source-place : tie.Need-sub-source-place
 sub-source-place c = search needs
