@@ -1,3 +1,3 @@
-// One refspec: what it instructs, its prefix, its prefixes and its canonical text. Port of gix-refspec.
+// One refspec: what it instructs, and its prefix. Port of the crate's instruction.rs and spec.rs.
 pub mod instruction;
 pub mod spec;

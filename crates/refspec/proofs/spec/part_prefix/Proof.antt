@@ -1,5 +1,5 @@
 -- The part that is lent is the bytes from the place on, and a prefix has some bytes. Assumes nothing.
-use Rattle.refspec.proofs.Prefixes.{part-prefix-none, part-prefix-some}
+use Rattle.refspec.proofs.Fronts.{part-prefix-none, part-prefix-some}
 use borrow.Author.Needs.{needs}
 use Rattle.refspec.proofs.spec.part_prefix.Statement.{statement}
 use Rattle.refspec.proofs.spec.part_prefix.Tie as tie

@@ -1,5 +1,5 @@
 -- Each branch is one case of a name's prefix. Assumes nothing.
-use Rattle.refspec.proofs.Prefixes.{length-head, length-other, length-plain, length-refs-star, length-bracket, length-star}
+use Rattle.refspec.proofs.Fronts.{length-head, length-other, length-plain, length-refs-star, length-bracket, length-star}
 use borrow.Author.Needs.{needs}
 use Rattle.refspec.proofs.spec.prefix_length.Statement.{statement}
 use Rattle.refspec.proofs.spec.prefix_length.Tie as tie

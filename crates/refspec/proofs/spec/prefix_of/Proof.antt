@@ -1,6 +1,6 @@
 -- Each arm is one kind of side. Assumes nothing.
-use Rattle.refspec.proofs.Prefixes.{prefix-of-part}
-use Rattle.parse.proofs.Reading.{part-within}
+use Rattle.refspec.proofs.Fronts.{prefix-of-part}
+use Rattle.parse.proofs.Parts.{part-within}
 use borrow.Author.Needs.{needs}
 use Rattle.refspec.proofs.spec.prefix_of.Statement.{statement}
 use Rattle.refspec.proofs.spec.prefix_of.Tie as tie

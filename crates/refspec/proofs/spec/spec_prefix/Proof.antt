@@ -1,5 +1,5 @@
 -- The prefix is that of the side it is taken from. Assumes nothing.
-use Rattle.refspec.proofs.Prefixes.{remote-within, prefix-of-remote}
+use Rattle.refspec.proofs.Fronts.{remote-within, prefix-of-remote}
 use borrow.Author.Needs.{needs}
 use Rattle.refspec.proofs.spec.spec_prefix.Statement.{statement}
 use Rattle.refspec.proofs.spec.spec_prefix.Tie as tie

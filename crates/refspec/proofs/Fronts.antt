@@ -18,7 +18,7 @@ use Rattle.parse.specs.declared.types.Side.{Side}
 use Rattle.parse.specs.declared.types.Side.the-variants.{Absent, Part, Head}
 use Rattle.parse.specs.declared.types.RefSpec.{RefSpec}
 use Rattle.parse.specs.Places.{modeMeant, partAt, sideMeant, Within, SidesWithin, specMeant}
-use Rattle.parse.proofs.Reading.{part-of, part-length}
+use Rattle.parse.proofs.Parts.{part-of, part-length}
 use Rattle.refspec.specs.Prefixes.{remotePlace, lengthOr0, prefixAt, prefixPlace}
 
 true-not-false : true ≡ false → ⊥
