@@ -1,0 +1,2 @@
+-- `Frames`: a candidate of a partial name by its number.
+pub mod Frames

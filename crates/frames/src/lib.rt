@@ -1,0 +1,107 @@
+//! The six frames of a partial name, and the candidates that they make.
+ghost use mathlib.Core.Path.{_≡_};
+ghost use Prim.Native.Nat.{_+_, _<_, _≤_};
+ghost use lib.ListN.{length};
+ghost use Rattle.meaning.specs.Limits.{listBytes};
+ghost use Rattle.meaning.specs.Number.{textBytes, recordBytes};
+ghost use Rattle.meaning.specs.Prefix.{candidates};
+ghost use Rattle.text.specs.Splice.{splice};
+ghost use Rattle.frames.specs.Frames.{Framing, frameAt, candidate};
+
+// A frame: its leading text, how many of these bytes count, and how many bytes of `/HEAD` trail.
+struct Frame([u8; 13], usize, usize);
+
+// How many frames there are.
+pub const FRAMES: usize = 6;
+
+// The frames, by candidate number.
+const TABLE: [Frame; 6] = [
+    Frame(*b"\0\0\0\0\0\0\0\0\0\0\0\0\0", 0, 0),
+    Frame(*b"refs/\0\0\0\0\0\0\0\0", 5, 0),
+    Frame(*b"refs/tags/\0\0\0", 10, 0),
+    Frame(*b"refs/heads/\0\0", 11, 0),
+    Frame(*b"refs/remotes/", 13, 0),
+    Frame(*b"refs/remotes/", 13, 5),
+];
+
+// What trails in the last frame.
+const HEAD: [u8; 5] = *b"/HEAD";
+
+// Frame number k.
+fn frame_of(k: usize) -> Frame
+    requires { ⌜ k < 6 ⌝ }
+    ensures { λ r. ⌜ Framing (frameAt k) (r .0) (r .1) (r .2) ⌝ }
+{
+    TABLE[k]
+}
+
+// How many bytes candidate number k of a name has.
+pub fn candidate_size(k: usize, name: &[u8]) -> usize
+    requires { ⌜ (k < 6) × (length (now name) ≤ listBytes) ⌝ }
+    ensures { λ r. ⌜ r ≡ length (candidate k (now (name .entry))) ⌝ }
+{
+    let f = frame_of(k);
+    f.1 + name.len() + f.2
+}
+
+// Candidate number k of a name, written from `at` on; the place after it.
+pub fn put_candidate(out: &mut [u8], at: usize, k: usize, name: &[u8]) -> usize
+    requires { ⌜ (k < 6) × (at + length (candidate k (now name)) ≤ length (now out)) ⌝ }
+    ensures { λ r. ⌜ (now (out .exit) ≡ splice (now (out .entry)) at (candidate k (now (name .entry)))) × (r ≡ at + length (candidate k (now (name .entry)))) ⌝ }
+{
+    let f = frame_of(k);
+    let leading = f.0;
+    let n = f.1;
+    let i = text::put(out, at, &leading[..n]);
+    let j = text::put(out, i, name);
+    let trailing = HEAD;
+    let t = f.2;
+    text::put(out, j, &trailing[..t])
+}
+
+// How many bytes candidate number k has as a record of a prefix list.
+fn record_size(k: usize, name: &[u8]) -> usize
+    requires { ⌜ (k < 6) × (length (now name) ≤ listBytes) ⌝ }
+    ensures { λ r. ⌜ r ≡ length (textBytes (candidate k (now (name .entry)))) ⌝ }
+{
+    let n = candidate_size(k, name);
+    number::size(n) + n
+}
+
+// Candidate number k as a record of a prefix list, written from `at` on; the place after it.
+fn put_record(out: &mut [u8], at: usize, k: usize, name: &[u8]) -> usize
+    requires { ⌜ (k < 6) × (length (now name) ≤ listBytes) × (at + length (textBytes (candidate k (now name))) ≤ length (now out)) ⌝ }
+    ensures { λ r. ⌜ (now (out .exit) ≡ splice (now (out .entry)) at (textBytes (candidate k (now (name .entry))))) × (r ≡ at + length (textBytes (candidate k (now (name .entry))))) ⌝ }
+{
+    let n = candidate_size(k, name);
+    let i = number::put(out, at, n);
+    put_candidate(out, i, k, name)
+}
+
+// How many bytes the candidates of a name take as a prefix list.
+pub fn candidates_size(name: &[u8]) -> usize
+    requires { ⌜ length (now name) ≤ listBytes ⌝ }
+    ensures { λ r. ⌜ r ≡ length (recordBytes (candidates (now (name .entry)))) ⌝ }
+{
+    let mut size = 0;
+    let mut k = 0;
+    while k < FRAMES {
+        size += record_size(k, name);
+        k += 1;
+    }
+    size
+}
+
+// The candidates of a name as a prefix list, written from `at` on; the place after it.
+pub fn put_candidates(out: &mut [u8], at: usize, name: &[u8]) -> usize
+    requires { ⌜ (length (now name) ≤ listBytes) × (at + length (recordBytes (candidates (now name))) ≤ length (now out)) ⌝ }
+    ensures { λ r. ⌜ (now (out .exit) ≡ splice (now (out .entry)) at (recordBytes (candidates (now (name .entry))))) × (r ≡ at + length (recordBytes (candidates (now (name .entry))))) ⌝ }
+{
+    let mut i = at;
+    let mut k = 0;
+    while k < FRAMES {
+        i = put_record(out, i, k, name);
+        k += 1;
+    }
+    i
+}
