@@ -1,0 +1,218 @@
+-- The canonical text by its pieces: their length, and writing them one after the other. Assumes nothing.
+use Prim.Native.Nat.{ℕ, zero, suc, _+_, _-_, _≤_, _<_}
+use native.Mathlib.Omega.{arith}
+use native.Mathlib.Nat.{add-zero}
+use mathlib.Core.Path.{_≡_, refl, sym, ap, _∙_}
+use mathlib.Core.Bool.{Bool, true, false, cond}
+use mathlib.Core.List.{List, [], _∷_, _++_, append-nil}
+use mathlib.Core.Option.{Option, none, some}
+use lib.ListN.{length, drop, length-append}
+use Rattle.meaning.specs.Bytes.{Text, bytes}
+use Rattle.meaning.specs.Spec.{Answer, accepted, refused, isNegative, isForce, push, readSpec}
+use Rattle.meaning.specs.Instruction.{instruction, instructionText, canonicalText}
+use Rattle.meaning.specs.Buffers.{Written, MeetsOne}
+use Rattle.meaning.specs.Entries.{toBstring}
+use Rattle.promises.proofs.Buffers.{meets-refused, meets-short, meets-written}
+use Rattle.text.specs.Splice.{splice}
+use Rattle.text.proofs.Splices.{splice-none, splice-start}
+use Rattle.text.proofs.Pairs.{pair-first, pair-second, pair-put}
+use Rattle.parse.specs.declared.types.Side.{Side}
+use Rattle.parse.specs.declared.types.Side.the-variants.{Absent, Part, Head}
+use Rattle.parse.specs.declared.types.RefSpec.{RefSpec}
+use Rattle.parse.specs.declared.Parsed.{Parsed}
+use Rattle.parse.specs.declared.Parsed.the-variants.{Spec, Refused}
+use Rattle.parse.specs.Places.{modeMeant, Within, SidesWithin, specMeant, parsed, isPresent}
+use Rattle.parse.proofs.Answers.{read-accepted, read-refused}
+use Rattle.refspec.specs.declared.instruction.Instruction.{Instruction}
+use Rattle.refspec.specs.declared.instruction.Instruction.the-variants.{FetchOnly, FetchExclude, FetchAndUpdate, PushAllMatchingBranches, PushDelete, PushMatching, PushExclude}
+use Rattle.write.specs.declared.canonical.Pieces.{Pieces}
+use Rattle.refspec.specs.Instructions.{sideText, fetchPlaces, pushPlaces, instructionPlaces, instructionMeant}
+use Rattle.write.specs.Canonical.{onePiece, twoPieces, piecesOf, signText, colonText, piecesText, PiecesWithin}
+use Rattle.refspec.proofs.Instructions.{instruction-meant}
+
+-- ---- the pieces
+
+module _ (force : Bool) (src dst : Side) where
+  pub two-forced : force ≡ true → _≡_ {A = Pieces} (record { sign = 43; src = src; colon = true; dst = dst }) (twoPieces force src dst)
+  two-forced e = rw e
+
+  pub two-plain : force ≡ false → _≡_ {A = Pieces} (record { sign = 0; src = src; colon = true; dst = dst }) (twoPieces force src dst)
+  two-plain e = rw e
+
+-- the arms of a `match` on an instruction
+module _ (i : Instruction) (p : Pieces) where
+  pub pieces-fetch-only : (src : Side) → i ≡ FetchOnly src → p ≡ onePiece 0 src → p ≡ piecesOf i
+  pieces-fetch-only src e h = rw e h
+
+  pub pieces-fetch-exclude : (src : Side) → i ≡ FetchExclude src → p ≡ onePiece 94 src → p ≡ piecesOf i
+  pieces-fetch-exclude src e h = rw e h
+
+  pub pieces-update : (src dst : Side) (f : Bool) → i ≡ FetchAndUpdate src dst f → p ≡ twoPieces f src dst → p ≡ piecesOf i
+  pieces-update src dst f e h = rw e h
+
+  pub pieces-all : (f : Bool) → i ≡ PushAllMatchingBranches f → p ≡ twoPieces f Absent Absent → p ≡ piecesOf i
+  pieces-all f e h = rw e h
+
+  pub pieces-delete : (dst : Side) → i ≡ PushDelete dst → p ≡ twoPieces false Absent dst → p ≡ piecesOf i
+  pieces-delete dst e h = rw e h
+
+  pub pieces-matching : (src dst : Side) (f : Bool) → i ≡ PushMatching src dst f → p ≡ twoPieces f src dst → p ≡ piecesOf i
+  pieces-matching src dst f e h = rw e h
+
+  pub pieces-push-exclude : (src : Side) → i ≡ PushExclude src → p ≡ onePiece 94 src → p ≡ piecesOf i
+  pieces-push-exclude src e h = rw e h
+
+-- ---- their lengths
+
+pub sign-some : (sign : ℕ) → (sign ≡ 0 → ⊥) → 1 ≡ length (signText sign)
+sign-some zero n = absurd (n refl)
+sign-some (suc k) n = refl
+
+pub pieces-length : (t : Text) (p : Pieces) (a b c d : ℕ) → a ≡ length (signText (p .sign)) → b ≡ length (sideText t (p .src)) → c ≡ length (colonText (p .colon)) → d ≡ length (sideText t (p .dst)) → a + b + c + d ≡ length (piecesText t p)
+unfolding piecesText
+pieces-length t p a b c d ea eb ec ed =
+    omega (
+      arith,
+      length-append (signText (p .sign) ++ sideText t (p .src)) (colonText (p .colon) ++ sideText t (p .dst)),
+      length-append (signText (p .sign)) (sideText t (p .src)),
+      length-append (colonText (p .colon)) (sideText t (p .dst)),
+    )
+
+-- ---- writing them
+
+module _ (d : Text) (at sign : ℕ) where
+  pub sign-none-put : sign ≡ 0 → d ≡ splice d at (signText sign)
+  sign-none-put e = rw e (sym (splice-none d at))
+
+  pub sign-none-end : sign ≡ 0 → at ≡ at + length (signText sign)
+  sign-none-end e = rw e (sym (add-zero at))
+
+  sign-is : (sign ≡ 0 → ⊥) → signText sign ≡ sign ∷ []
+  sign-is n = go sign n
+    where
+      go : (k : ℕ) → (k ≡ 0 → ⊥) → signText k ≡ k ∷ []
+      go zero n = absurd (n refl)
+      go (suc k) n = refl
+
+  module _ (n : sign ≡ 0 → ⊥) where
+    pub sign-room : at + length (signText sign) ≤ length d → at < length d
+    sign-room h = let g : at + 1 ≤ length d = rw (sign-is n) at h in omega arith
+
+    pub sign-put : (o : Text) → o ≡ splice d at (sign ∷ []) → o ≡ splice d at (signText sign)
+    sign-put o h = rw (sign-is n) h
+
+    pub sign-end : (r : ℕ) → r ≡ at + 1 → r ≡ at + length (signText sign)
+    sign-end r h = rw (sign-is n) h
+
+module _ (d : Text) (at : ℕ) (colon-there : Bool) where
+  pub colon-none-put : colon-there ≡ false → d ≡ splice d at (colonText colon-there)
+  colon-none-put e = rw e (sym (splice-none d at))
+
+  pub colon-none-end : colon-there ≡ false → at ≡ at + length (colonText colon-there)
+  colon-none-end e = rw e (sym (add-zero at))
+
+  module _ (e : colon-there ≡ true) where
+    pub colon-room : at + length (colonText colon-there) ≤ length d → at < length d
+    colon-room h = let g : at + 1 ≤ length d = rw e at h in omega arith
+
+    pub colon-put : (o : Text) → o ≡ splice d at (58 ∷ []) → o ≡ splice d at (colonText colon-there)
+    colon-put o h = rw e h
+
+    pub colon-end : (r : ℕ) → r ≡ at + 1 → r ≡ at + length (colonText colon-there)
+    colon-end r h = rw e h
+
+-- front and back, one after the other
+module _ (t d : Text) (p : Pieces) (fits : length (piecesText t p) ≤ length d) where
+  both : 0 + length ((signText (p .sign) ++ sideText t (p .src)) ++ (colonText (p .colon) ++ sideText t (p .dst))) ≤ length d
+  unfolding piecesText
+  both = omega arith
+
+  pub front-room : 0 + length (signText (p .sign) ++ sideText t (p .src)) ≤ length d
+  front-room = pair-first d 0 (signText (p .sign) ++ sideText t (p .src)) (colonText (p .colon) ++ sideText t (p .dst)) both
+
+  module _ (o : Text) (i : ℕ) (eo : o ≡ splice d 0 (signText (p .sign) ++ sideText t (p .src))) (ei : i ≡ 0 + length (signText (p .sign) ++ sideText t (p .src))) where
+    pub back-room : i + length (colonText (p .colon) ++ sideText t (p .dst)) ≤ length o
+    back-room = pair-second d 0 (signText (p .sign) ++ sideText t (p .src)) (colonText (p .colon) ++ sideText t (p .dst)) both o i eo ei
+
+    pub all-written : (o₂ : Text) → o₂ ≡ splice o i (colonText (p .colon) ++ sideText t (p .dst)) → o₂ ≡ splice d 0 (piecesText t p)
+    unfolding piecesText
+    all-written o₂ e = pair-put d 0 (signText (p .sign) ++ sideText t (p .src)) (colonText (p .colon) ++ sideText t (p .dst)) both o i eo ei o₂ e
+
+-- ---- the canonical text
+
+-- the pieces of an instruction make its text
+pieces-text : (t : Text) (i : Instruction) → piecesText t (piecesOf i) ≡ instructionText (instructionMeant t i)
+unfolding piecesText
+pieces-text t (FetchOnly src) = append-nil (sideText t src)
+pieces-text t (FetchExclude src) = ap (λ (l : Text). 94 ∷ l) (append-nil (sideText t src))
+pieces-text t (FetchAndUpdate src dst true) = refl
+pieces-text t (FetchAndUpdate src dst false) = refl
+pieces-text t (PushAllMatchingBranches true) = refl
+pieces-text t (PushAllMatchingBranches false) = refl
+pieces-text t (PushDelete dst) = refl
+pieces-text t (PushMatching src dst true) = refl
+pieces-text t (PushMatching src dst false) = refl
+pieces-text t (PushExclude src) = ap (λ (l : Text). 94 ∷ l) (append-nil (sideText t src))
+
+-- what an instruction's pieces are within, its spec's sides are
+module _ (len : ℕ) where
+  fetch-pieces : (f : Bool) (src dst : Side) → Within len src → Within len dst → PiecesWithin len (piecesOf (fetchPlaces f src dst))
+  unfolding fetchPlaces
+  fetch-pieces f src dst s d = go (isPresent dst)
+    where
+      go : (b : Bool) → PiecesWithin len (piecesOf (cond b (FetchAndUpdate src dst f) (FetchOnly src)))
+      go true = record { src-within = s; dst-within = d }
+      go false = record { src-within = s; dst-within = tt }
+
+  push-pieces : (f : Bool) (src dst : Side) → Within len src → Within len dst → PiecesWithin len (piecesOf (pushPlaces f src dst))
+  unfolding pushPlaces
+  push-pieces f src dst s d = go (isPresent src) (isPresent dst)
+    where
+      go : (a b : Bool) → PiecesWithin len (piecesOf (cond a (PushMatching src (cond b dst src) f) (cond b (PushDelete dst) (PushAllMatchingBranches f))))
+      go true true = record { src-within = s; dst-within = d }
+      go true false = record { src-within = s; dst-within = s }
+      go false true = record { src-within = tt; dst-within = d }
+      go false false = record { src-within = tt; dst-within = tt }
+
+  instruction-pieces : (op : ℕ) (r : RefSpec) → SidesWithin len r → PiecesWithin len (piecesOf (instructionPlaces op r))
+  unfolding instructionPlaces
+  instruction-pieces op r w = go (isNegative (modeMeant (r .mode))) (push op)
+    where
+      go : (a b : Bool) → PiecesWithin len (piecesOf (cond a (cond b (PushExclude (r .src)) (FetchExclude (r .src))) (cond b (pushPlaces (isForce (modeMeant (r .mode))) (r .src) (r .dst)) (fetchPlaces (isForce (modeMeant (r .mode))) (r .src) (r .dst)))))
+      go true true = record { src-within = w .src-within; dst-within = tt }
+      go true false = record { src-within = w .src-within; dst-within = tt }
+      go false true = push-pieces (isForce (modeMeant (r .mode))) (r .src) (r .dst) (w .src-within) (w .dst-within)
+      go false false = fetch-pieces (isForce (modeMeant (r .mode))) (r .src) (r .dst) (w .src-within) (w .dst-within)
+
+module _ (op : ℕ) (t : Text) (r : RefSpec) (i : Instruction) (p : Pieces) (ei : i ≡ instructionPlaces op r) (ep : p ≡ piecesOf i) where
+  pub pieces-within : (len : ℕ) → SidesWithin len r → PiecesWithin len p
+  pieces-within len w = rw (ep, ei) (instruction-pieces len op r w)
+
+  -- the pieces of a spec make its canonical text
+  canonical-is : piecesText t p ≡ canonicalText op (specMeant t r)
+  unfolding canonicalText
+  canonical-is = ap (piecesText t) (ep ∙ ap piecesOf ei) ∙ pieces-text t (instructionPlaces op r) ∙ ap instructionText (instruction-meant op t r)
+
+  module _ (size : ℕ) (es : size ≡ length (piecesText t p)) (entry : Text) where
+    pub canonical-short : length entry < size → MeetsOne (accepted (some (canonicalText op (specMeant t r)) ∷ [])) entry entry 17 0 size
+    canonical-short h =
+        let n : length entry < length (piecesText t p) = rw es at h in
+        rw (← canonical-is) (meets-short (accepted (some (piecesText t p) ∷ [])) entry entry (piecesText t p) 17 0 size refl n refl refl refl es)
+
+    pub canonical-room : size ≤ length entry → length (piecesText t p) ≤ length entry
+    canonical-room h = rw es at h
+
+    pub canonical-written : (exit : Text) → size ≤ length entry → exit ≡ splice entry 0 (piecesText t p) → MeetsOne (accepted (some (canonicalText op (specMeant t r)) ∷ [])) entry exit 0 0 size
+    canonical-written exit h e =
+        rw (← canonical-is) (meets-written (accepted (some (piecesText t p) ∷ [])) entry exit (piecesText t p) 0 0 size refl (canonical-room h) (e ∙ splice-start entry (piecesText t p)) refl refl es)
+
+-- ---- the entry
+
+module _ (op : ℕ) (t : Text) (answer : Parsed) (ea : answer ≡ parsed op t) (entry exit : Text) where
+  pub bstring-accepted : (r : RefSpec) (a b c : ℕ) → answer ≡ Spec r → MeetsOne (accepted (some (canonicalText op (specMeant t r)) ∷ [])) entry exit a b c → MeetsOne (toBstring op t) entry exit a b c
+  unfolding toBstring
+  bstring-accepted r a b c e m = rw (read-accepted op t answer ea r e) m
+
+pub bstring-refused : (op : ℕ) (t : Text) (answer : Parsed) (entry : Text) (n : ℕ) → answer ≡ parsed op t → answer ≡ Refused n → MeetsOne (toBstring op t) entry entry n 0 0
+unfolding toBstring
+bstring-refused op t answer entry n ea e = meets-refused (toBstring op t) entry entry n none n 0 0 (rw (read-refused op t answer ea n e)) refl refl refl refl

@@ -1,0 +1,44 @@
+-- The pieces of the instruction make the canonical text, which is measured before it is written. Assumes nothing.
+use Rattle.write.proofs.Texts.{pieces-within, canonical-short, canonical-room, canonical-written}
+use borrow.Author.Needs.{needs}
+use Rattle.write.proofs.canonical.write_to.Statement.{statement}
+use Rattle.write.proofs.canonical.write_to.Tie as tie
+use Rattle.write.proofs.canonical.write_to.Reads as reads
+use Rattle.write.proofs.canonical.write_to.Lts as lts
+use Rattle.refspec.proofs.spec.instruction_of.Reads as instruction-of-reads
+use Rattle.write.proofs.canonical.pieces_of.Reads as pieces-of-reads
+use Rattle.write.proofs.canonical.pieces_size.Reads as pieces-size-reads
+use Rattle.write.proofs.canonical.put_pieces.Reads as put-pieces-reads
+
+instruction-of-requires : tie.Need-instruction-of-requires
+instruction-of-requires c κs = search needs
+
+pieces-of-requires : tie.Need-pieces-of-requires
+pieces-of-requires c κs = search needs
+
+pieces-size-requires : tie.Need-pieces-size-requires
+pieces-size-requires c κs = (search pieces-within, search needs)
+
+returns : tie.Need-returns
+returns c = search canonical-short
+
+put-pieces-requires : tie.Need-put-pieces-requires
+put-pieces-requires c κs = (search pieces-within, search canonical-room)
+
+same-length : tie.Need-same-length
+same-length c = search needs
+
+returns-2 : tie.Need-returns-2
+returns-2 c = search canonical-written
+
+pub write-to-spec : {M : Type 1} → statement M
+write-to-spec =
+    tie.close
+    (tie.spec
+    instruction-of-requires
+    pieces-of-requires
+    pieces-size-requires
+    returns
+    put-pieces-requires
+    same-length
+    returns-2)

@@ -1,0 +1,45 @@
+-- The yield of the side denotes the prefixes, which are measured before they are written. Assumes nothing.
+use Rattle.refspec.proofs.Fronts.{remote-within}
+use Rattle.write.proofs.Yields.{yield-within, expand-short, expand-room, expand-written}
+use borrow.Author.Needs.{needs}
+use Rattle.write.proofs.prefixes.expand.Statement.{statement}
+use Rattle.write.proofs.prefixes.expand.Tie as tie
+use Rattle.write.proofs.prefixes.expand.Reads as reads
+use Rattle.write.proofs.prefixes.expand.Lts as lts
+use Rattle.write.proofs.prefixes.put_yield.Reads as put-yield-reads
+use Rattle.write.proofs.prefixes.yield_of.Reads as yield-of-reads
+use Rattle.write.proofs.prefixes.yield_size.Reads as yield-size-reads
+use Rattle.refspec.proofs.spec.remote.Reads as remote-reads
+
+remote-requires : tie.Need-remote-requires
+remote-requires c κs = search needs
+
+yield-of-requires : tie.Need-yield-of-requires
+yield-of-requires c κs = search remote-within
+
+yield-size-requires : tie.Need-yield-size-requires
+yield-size-requires c κs = (search yield-within, search needs)
+
+returns : tie.Need-returns
+returns c = search expand-short
+
+put-yield-requires : tie.Need-put-yield-requires
+put-yield-requires c κs = (search yield-within, search needs, search expand-room)
+
+same-length : tie.Need-same-length
+same-length c = search needs
+
+returns-2 : tie.Need-returns-2
+returns-2 c = search expand-written
+
+pub expand-spec : {M : Type 1} → statement M
+expand-spec =
+    tie.close
+    (tie.spec
+    remote-requires
+    yield-of-requires
+    yield-size-requires
+    returns
+    put-yield-requires
+    same-length
+    returns-2)

@@ -1,0 +1,26 @@
+-- The number comes before the bytes that it counts, and has three at most. Assumes nothing.
+use Rattle.number.proofs.Bytes.{bytes-few}
+use native.Mathlib.Omega.{arith}
+use Rattle.number.proofs.Texts.{text-size}
+use borrow.Author.Needs.{needs}
+use Rattle.write.proofs.prefixes.record_size.Statement.{statement}
+use Rattle.write.proofs.prefixes.record_size.Tie as tie
+use Rattle.write.proofs.prefixes.record_size.Reads as reads
+use Rattle.write.proofs.prefixes.record_size.Lts as lts
+use Rattle.number.proofs.size.Reads as size-reads
+use Rattle.write.proofs.side.side_size.Reads as side-size-reads
+
+side-size-requires : tie.Need-side-size-requires
+side-size-requires c κs = search needs
+
+size-requires : tie.Need-size-requires
+size-requires c κs = search needs
+
+add-result : tie.Need-add-result
+add-result c = omega (arith, bytes-few (c .before .side-size .result))
+
+returns : tie.Need-returns
+returns c = search text-size
+
+pub record-size-spec : {M : Type 1} → statement M
+record-size-spec = tie.close (tie.spec side-size-requires size-requires add-result returns)

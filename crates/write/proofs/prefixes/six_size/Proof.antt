@@ -1,0 +1,37 @@
+-- The part that is lent is the bytes from the place on. Assumes nothing.
+use Rattle.write.proofs.Yields.{six-length}
+use borrow.Author.Needs.{needs}
+use Rattle.write.proofs.prefixes.six_size.Statement.{statement}
+use Rattle.write.proofs.prefixes.six_size.Tie as tie
+use Rattle.write.proofs.prefixes.six_size.Reads as reads
+use Rattle.write.proofs.prefixes.six_size.Lts as lts
+use Rattle.frames.proofs.candidates_size.Reads as candidates-size-reads
+
+add-end : tie.Need-add-end
+add-end c = search needs
+
+sub-candidates-size : tie.Need-sub-candidates-size
+sub-candidates-size c = search needs
+
+part-candidates-size-start : tie.Need-part-candidates-size-start
+part-candidates-size-start c = search needs
+
+part-candidates-size-end : tie.Need-part-candidates-size-end
+part-candidates-size-end c = search needs
+
+candidates-size-requires : tie.Need-candidates-size-requires
+candidates-size-requires c κs = search needs
+
+returns : tie.Need-returns
+returns c = search six-length
+
+pub six-size-spec : {M : Type 1} → statement M
+six-size-spec =
+    tie.close
+    (tie.spec
+    add-end
+    sub-candidates-size
+    part-candidates-size-start
+    part-candidates-size-end
+    candidates-size-requires
+    returns)
