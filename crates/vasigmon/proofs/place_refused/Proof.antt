@@ -1,0 +1,17 @@
+-- Each field is the definition's. Assumes nothing.
+use Rattle.vasigmon.proofs.Cases.{place-refused-is}
+use borrow.Author.Needs.{needs}
+use Rattle.vasigmon.proofs.place_refused.Statement.{statement}
+use Rattle.vasigmon.proofs.place_refused.Tie as tie
+use Rattle.vasigmon.proofs.place_refused.Reads as reads
+use Rattle.vasigmon.proofs.place_refused.Lts as lts
+use Rattle.vasigmon.proofs.side_answer.Reads as side-answer-reads
+
+side-answer-requires : tie.Need-side-answer-requires
+side-answer-requires c κs = search needs
+
+returns : tie.Need-returns
+returns c = search place-refused-is
+
+pub place-refused-spec : {M : Type 1} → statement M
+place-refused-spec = tie.close (tie.spec side-answer-requires returns)
