@@ -1,0 +1,124 @@
+//! The C entries, called on slices. The one module that holds `unsafe`.
+//!
+//! Answers are as include/vasigmon.h describes them: numbers and places, not
+//! slices. Use these functions to lend a buffer of your own or to keep places;
+//! the functions at the crate's top resolve both.
+
+/// A side of a spec, or a prefix.
+#[repr(C)]
+#[derive(Clone, Copy, Debug, Default, PartialEq, Eq)]
+pub struct Side {
+    /// 0 absent, 1 a place in the spec, 2 the supplied `HEAD`.
+    pub kind: u64,
+    /// Where the place starts in the spec.
+    pub start: u64,
+    /// How many bytes it has.
+    pub length: u64,
+}
+
+/// The answer of [`parse`].
+#[repr(C)]
+#[derive(Clone, Copy, Debug, Default, PartialEq, Eq)]
+pub struct Spec {
+    /// 0, or why the spec is refused.
+    pub refusal: u64,
+    /// 0 normal, 1 force, 2 negative.
+    pub mode: u64,
+    /// The source.
+    pub source: Side,
+    /// The destination.
+    pub destination: Side,
+}
+
+/// The answer of [`instruction`].
+#[repr(C)]
+#[derive(Clone, Copy, Debug, Default, PartialEq, Eq)]
+pub struct Instruction {
+    /// 0, or why the spec is refused.
+    pub refusal: u64,
+    /// 0 fetch only, 1 fetch exclude, 2 fetch and update, 3 push all matching
+    /// branches, 4 push delete, 5 push matching, 6 push exclude.
+    pub kind: u64,
+    /// 1 if a non-fast-forward is allowed.
+    pub force: u64,
+    /// The source.
+    pub source: Side,
+    /// The destination.
+    pub destination: Side,
+}
+
+/// The answer of [`prefix`].
+#[repr(C)]
+#[derive(Clone, Copy, Debug, Default, PartialEq, Eq)]
+pub struct Prefix {
+    /// 0, or why the spec is refused.
+    pub refusal: u64,
+    /// The prefix.
+    pub prefix: Side,
+}
+
+/// The answer of a call that writes into a lent buffer.
+#[repr(C)]
+#[derive(Clone, Copy, Debug, Default, PartialEq, Eq)]
+pub struct Written {
+    /// 0, or why the call is refused; nothing is written then.
+    pub refusal: u64,
+    /// The number of the refused record of a list; 0 in a call on one spec.
+    pub record: u64,
+    /// The bytes written; beside refusal 17, the length of a buffer that will do.
+    pub length: u64,
+}
+
+mod entries {
+    use super::{Instruction, Prefix, Spec, Written};
+
+    unsafe extern "C" {
+        pub fn vasigmon_parse(op: u64, spec: *const u8, spec_len: usize) -> Spec;
+        pub fn vasigmon_instruction(op: u64, spec: *const u8, spec_len: usize) -> Instruction;
+        pub fn vasigmon_prefix(op: u64, spec: *const u8, spec_len: usize) -> Prefix;
+        pub fn vasigmon_expand_prefixes(
+            op: u64,
+            spec: *const u8,
+            spec_len: usize,
+            out: *mut u8,
+            out_len: usize,
+        ) -> Written;
+        pub fn vasigmon_to_bstring(
+            op: u64,
+            spec: *const u8,
+            spec_len: usize,
+            out: *mut u8,
+            out_len: usize,
+        ) -> Written;
+    }
+}
+
+// Why each call below is safe: a slice's pointer is never null, also where the
+// slice is empty, and it is valid for the length that is passed beside it. The
+// entries are proved to stay within both, keep no pointer, and take any bytes
+// and any operation. A `&mut` buffer does not overlap the spec.
+
+/// Reads a spec.
+pub fn parse(op: u64, spec: &[u8]) -> Spec {
+    unsafe { entries::vasigmon_parse(op, spec.as_ptr(), spec.len()) }
+}
+
+/// Answers what a spec asks for.
+pub fn instruction(op: u64, spec: &[u8]) -> Instruction {
+    unsafe { entries::vasigmon_instruction(op, spec.as_ptr(), spec.len()) }
+}
+
+/// Answers the prefix of a spec.
+pub fn prefix(op: u64, spec: &[u8]) -> Prefix {
+    unsafe { entries::vasigmon_prefix(op, spec.as_ptr(), spec.len()) }
+}
+
+/// Writes a spec's prefixes to `out`, as a list of lengths and bytes.
+pub fn expand_prefixes(op: u64, spec: &[u8], out: &mut [u8]) -> Written {
+    unsafe { entries::vasigmon_expand_prefixes(op, spec.as_ptr(), spec.len(), out.as_mut_ptr(), out.len()) }
+}
+
+/// Writes the canonical text of a spec to `out`.
+pub fn to_bstring(op: u64, spec: &[u8], out: &mut [u8]) -> Written {
+    unsafe { entries::vasigmon_to_bstring(op, spec.as_ptr(), spec.len(), out.as_mut_ptr(), out.len()) }
+}

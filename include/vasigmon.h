@@ -1,0 +1,162 @@
+/* Vasigmon: Git's refspecs, read, mapped and validated by code that is proved.
+ *
+ * A spec is a byte string that names a source and a destination of references.
+ * It is read for fetch (operation 0) or for push (operation 1). Each call here
+ * is on one spec, and each reads the spec itself: there is nothing to keep
+ * between two calls, nothing to release, and no call allocates.
+ *
+ * Lending bytes. Every pointer is lent for the duration of the call together
+ * with a length. A pointer must never be null, not even beside length 0: where
+ * there is nothing to lend, pass the address of any byte. An output buffer must
+ * not overlap the spec.
+ *
+ * Answers. Each answer is a struct that is returned by value. Its field
+ * `refusal` is 0 for a result, else one of the numbers of
+ * `enum vasigmon_refusal`. A field without a meaning in an answer is 0, so in a
+ * refusal every other field is 0 (but the length beside 17).
+ *
+ * Places. A side of a spec is answered as a kind (`enum vasigmon_side`) with a
+ * start and a length: the bytes spec[start] to spec[start + length - 1] of the
+ * spec that was lent. No answer holds a pointer.
+ *
+ * Link with libvasigmon.a, which `rt staticlib vasigmon` writes to
+ * target/staticlib/. It needs nothing beyond the C library.
+ */
+#ifndef VASIGMON_H
+#define VASIGMON_H
+
+#include <stddef.h>
+#include <stdint.h>
+
+#ifdef __cplusplus
+extern "C" {
+#endif
+
+/* What a spec is read for. */
+enum vasigmon_operation {
+    VASIGMON_FETCH = 0,
+    VASIGMON_PUSH = 1
+};
+
+/* Why a call was refused. The questions are asked in this order, but 18 comes
+ * before all others, and the first that is answered by no gives the number. */
+enum vasigmon_refusal {
+    VASIGMON_ACCEPTED = 0,               /* no refusal: the answer is a result */
+    VASIGMON_SPEC_TOO_LONG = 1,          /* the spec is above 4,096 bytes */
+    VASIGMON_EMPTY_PUSH = 2,             /* a push spec is empty */
+    VASIGMON_NEGATIVE_COLON = 3,         /* a spec with `^` has a colon */
+    VASIGMON_PUSH_INTO_NOTHING = 4,      /* a push has a colon and a source, and no destination */
+    VASIGMON_SOURCE_STARS = 5,           /* the source has more than one star */
+    VASIGMON_SOURCE_NAME = 6,            /* the source does not pass the name rules */
+    VASIGMON_DESTINATION_STARS = 7,      /* the destination has more than one star */
+    VASIGMON_DESTINATION_NAME = 8,       /* the destination does not pass the name rules */
+    VASIGMON_ONE_STAR_OF_TWO = 9,        /* one side has a star and the other has none */
+    VASIGMON_NEGATIVE_EMPTY = 10,        /* no source follows `^` */
+    VASIGMON_NEGATIVE_OBJECT = 11,       /* the source after `^` is forty or more bytes, all hexadecimal digits */
+    VASIGMON_BUFFER_TOO_SHORT = 17,      /* the output buffer is not long enough for the whole answer */
+    VASIGMON_NO_SUCH_OPERATION = 18      /* the operation is neither 0 nor 1 */
+};
+
+/* How a spec is meant. */
+enum vasigmon_mode {
+    VASIGMON_NORMAL = 0,
+    VASIGMON_FORCE = 1,                  /* it begins with `+` */
+    VASIGMON_NEGATIVE = 2                /* it begins with `^` */
+};
+
+/* What stands on a side of a spec. */
+enum vasigmon_side {
+    VASIGMON_ABSENT = 0,                 /* nothing; start and length are 0 */
+    VASIGMON_PLACE = 1,                  /* the bytes of the spec at start, of that length */
+    VASIGMON_SUPPLIED_HEAD = 2           /* the text `HEAD`, which the spec does not spell; start and length are 0 */
+};
+
+/* What a spec asks for. */
+enum vasigmon_instruction_kind {
+    VASIGMON_FETCH_ONLY = 0,             /* fetch the source and update nothing */
+    VASIGMON_FETCH_EXCLUDE = 1,          /* leave the source out of what other specs fetch */
+    VASIGMON_FETCH_AND_UPDATE = 2,       /* fetch the source and update the destination */
+    VASIGMON_PUSH_ALL_MATCHING = 3,      /* push every branch that the other side has too; no side is present */
+    VASIGMON_PUSH_DELETE = 4,            /* delete the destination; no source is present */
+    VASIGMON_PUSH_MATCHING = 5,          /* push the source to the destination */
+    VASIGMON_PUSH_EXCLUDE = 6            /* leave the source out of what other specs push */
+};
+
+/* A spec that was read. */
+typedef struct vasigmon_spec {
+    uint64_t refusal;
+    uint64_t mode;                       /* enum vasigmon_mode */
+    uint64_t source;                     /* enum vasigmon_side */
+    uint64_t source_start;
+    uint64_t source_length;
+    uint64_t destination;                /* enum vasigmon_side; never VASIGMON_SUPPLIED_HEAD */
+    uint64_t destination_start;
+    uint64_t destination_length;
+} vasigmon_spec;
+
+/* Reads a spec. In fetch, an absent source that is not negative is the supplied
+ * `HEAD`; a source `@` is the supplied `HEAD` in both operations. */
+vasigmon_spec vasigmon_parse(uint64_t op, const uint8_t *spec, size_t spec_len);
+
+/* What a spec asks for. */
+typedef struct vasigmon_instruction_t {
+    uint64_t refusal;
+    uint64_t kind;                       /* enum vasigmon_instruction_kind */
+    uint64_t force;                      /* 1 if a non-fast-forward is allowed; kinds 2, 3 and 5 alone can have it */
+    uint64_t source;                     /* enum vasigmon_side */
+    uint64_t source_start;
+    uint64_t source_length;
+    uint64_t destination;                /* enum vasigmon_side */
+    uint64_t destination_start;
+    uint64_t destination_length;
+} vasigmon_instruction_t;
+
+/* Answers what a spec asks for. A push with a source alone has that source as
+ * its destination too (perhaps the supplied `HEAD`). */
+vasigmon_instruction_t vasigmon_instruction(uint64_t op, const uint8_t *spec, size_t spec_len);
+
+/* The start that every name on the remote's side of a spec has. */
+typedef struct vasigmon_prefix_t {
+    uint64_t refusal;
+    uint64_t prefix;                     /* enum vasigmon_side: VASIGMON_ABSENT if there is none */
+    uint64_t start;
+    uint64_t length;
+} vasigmon_prefix_t;
+
+/* Answers the prefix of a spec, of its source in fetch and of its destination
+ * in push. `HEAD` and names beginning `refs/` have themselves; patterns
+ * beginning `refs/` have what stands before the star, unless the star comes
+ * right after `refs/` or a `]` is among the rest. All others, and negative
+ * specs, have none. */
+vasigmon_prefix_t vasigmon_prefix(uint64_t op, const uint8_t *spec, size_t spec_len);
+
+/* What a call did with the output buffer it was lent.
+ *
+ * With refusal 0, `length` bytes of the answer stand at the buffer's start, and
+ * the bytes beyond them are as they were. With any refusal the whole buffer is
+ * as it was. Beside VASIGMON_BUFFER_TOO_SHORT, `length` is the length of a
+ * buffer that will do: at least what is needed and at most twice that. */
+typedef struct vasigmon_written {
+    uint64_t refusal;
+    uint64_t record;                     /* the number of the refused record of a list; 0 in a call on one spec */
+    uint64_t length;
+} vasigmon_written;
+
+/* Writes the canonical text of a spec's instruction. */
+vasigmon_written vasigmon_to_bstring(uint64_t op, const uint8_t *spec, size_t spec_len,
+                                     uint8_t *out, size_t out_len);
+
+/* Writes the prefixes of the names that a spec asks the remote for, as a list:
+ * for each prefix its length, then its bytes. A length is a number in groups of
+ * seven bits, lowest first, the top bit set while more follow. A partial name
+ * such as `main` gives six: `main`, `refs/main`, `refs/tags/main`,
+ * `refs/heads/main`, `refs/remotes/main`, `refs/remotes/main/HEAD`. The list
+ * may be empty. */
+vasigmon_written vasigmon_expand_prefixes(uint64_t op, const uint8_t *spec, size_t spec_len,
+                                          uint8_t *out, size_t out_len);
+
+#ifdef __cplusplus
+}
+#endif
+
+#endif

@@ -1,0 +1,146 @@
+//! Records what gix-refspec answers, so that the answers can be replayed where
+//! neither Rust nor the crate is at hand. ../README.md has the format.
+
+use cases::{Random, SPEC_LIMIT, around_the_limit, good, grown, short_text, short_texts};
+use oracle::{Answer, Side};
+use std::{collections::BTreeSet, fs, process::ExitCode};
+
+const USAGE: &str = "usage: recorder [--check] FILE";
+
+/// All texts of up to two of these bytes are recorded.
+const TELLING: &[u8] = b"a*:+^/.@{~]H";
+
+/// How many good specs, and how many specs of any shape, are tried.
+const GROWN: u64 = 900;
+
+const SEED: u64 = 1;
+
+/// Of the specs around the limit of 4,096 bytes, these are recorded, below it.
+const LONG: [u64; 5] = [24, 4, 17, 31, 8];
+
+fn main() -> ExitCode {
+    let words: Vec<String> = std::env::args().skip(1).collect();
+    match words.iter().map(String::as_str).collect::<Vec<_>>()[..] {
+        ["--check", file] => {
+            let same = fs::read(file).is_ok_and(|bytes| bytes == recorded());
+            println!("recorder: {file} {} what the crate answers", if same { "is" } else { "is not" });
+            if same { ExitCode::SUCCESS } else { ExitCode::FAILURE }
+        }
+        [file] if !file.starts_with('-') => {
+            let bytes = recorded();
+            fs::write(file, &bytes).expect("the file can be written");
+            println!("recorder: {} records, {} bytes", 2 * specs().len(), bytes.len());
+            ExitCode::SUCCESS
+        }
+        _ => {
+            eprintln!("{USAGE}");
+            ExitCode::from(2)
+        }
+    }
+}
+
+/// The records of all specs, for fetch and for push.
+fn recorded() -> Vec<u8> {
+    let mut out = Vec::new();
+    for spec in specs() {
+        for op in [0, 1] {
+            record(&mut out, op, &spec, oracle::ask(op.into(), &spec));
+        }
+    }
+    out
+}
+
+/// The specs, each once, in order of their length.
+fn specs() -> Vec<Vec<u8>> {
+    let short = (0..short_texts(TELLING, 2)).map(|n| short_text(TELLING, n));
+    let good = (0..GROWN).map(|n| good(&mut Random::new(SEED, n)));
+    let grown = (0..GROWN).map(|n| grown(&mut Random::new(SEED, GROWN + n)));
+    let long = LONG.map(around_the_limit).into_iter().filter(|spec| spec.len() < SPEC_LIMIT);
+    let named = NAMED.iter().map(|spec| spec.to_vec());
+    let all = short.chain(named).chain(good).chain(grown.filter(|spec| spec.len() < 1000)).chain(long);
+    let set: BTreeSet<_> = all.map(|spec| (spec.len(), spec)).collect();
+    set.into_iter().map(|(_, spec)| spec).collect()
+}
+
+/// Specs that the papers speak of.
+const NAMED: &[&[u8]] = &[
+    b"^a:b",
+    b"a:",
+    b"a*:b",
+    b"a*",
+    b"a**:b*",
+    b"+:d",
+    b"++a",
+    b":/fix:refs/heads/b",
+    b"a:@",
+    b"refs/*:b/*",
+    b"refs/*/b:b/*",
+    b"refs/a]*:b*",
+    b"refs/a]/*:b*",
+    b"+refs/heads/*:refs/remotes/hub/*",
+    b"^refs/heads/tmp*",
+    b"refs/heads/*:refs/remotes/origin/*",
+    b"HEAD:refs/heads/main",
+    b"main",
+    b"main:main",
+    b":refs/heads/old",
+    b"refs/tags/*:refs/tags/*",
+    b"^aaaaaaaaaaaaaaaaaaaaaaaaaaaaaaaaaaaaaaa",
+    b"^aaaaaaaaaaaaaaaaaaaaaaaaaaaaaaaaaaaaaaaa",
+    b"0123456789abcdefABCDEF0123456789abcdef01:b",
+    b"b:0123456789abcdefABCDEF0123456789abcdef01",
+];
+
+/// Appends one record.
+fn record(out: &mut Vec<u8>, op: u8, spec: &[u8], answer: Result<Answer, u64>) {
+    out.push(op);
+    text(out, spec);
+    let Ok(answer) = answer else {
+        out.push(0);
+        return;
+    };
+    out.extend([1, answer.kind as u8, answer.force as u8]);
+    text(out, &answer.text);
+    match answer.prefix {
+        Side { kind: 0, .. } => out.push(0),
+        Side { kind: 1, start, length } => {
+            out.push(1);
+            text(out, &spec[start as usize..][..length as usize]);
+        }
+        _ => {
+            out.push(1);
+            text(out, b"HEAD");
+        }
+    }
+    out.push(answer.prefixes.len() as u8);
+    answer.prefixes.iter().for_each(|prefix| text(out, prefix));
+}
+
+/// Appends a text: its length in two bytes, the lower first, then its bytes.
+fn text(out: &mut Vec<u8>, bytes: &[u8]) {
+    let length = u16::try_from(bytes.len()).expect("a recorded text is below 65,536 bytes");
+    out.extend(length.to_le_bytes());
+    out.extend(bytes);
+}
+
+#[cfg(test)]
+mod tests {
+    use super::*;
+
+    #[test]
+    fn a_record_of_each_kind() {
+        let mut out = Vec::new();
+        record(&mut out, 1, b"a:", oracle::ask(1, b"a:"));
+        assert_eq!(out, b"\x01\x02\x00a:\x00");
+        out.clear();
+        record(&mut out, 0, b"+:d", oracle::ask(0, b"+:d"));
+        assert_eq!(out, b"\x00\x03\x00+:d\x01\x02\x01\x07\x00+HEAD:d\x01\x04\x00HEAD\x01\x04\x00HEAD");
+    }
+
+    #[test]
+    fn the_file_is_small_and_has_some_thousands_of_records() {
+        assert!(recorded().len() < 600_000);
+        assert!(2 * specs().len() > 3_000);
+        assert!(specs().iter().all(|spec| spec.len() < SPEC_LIMIT));
+    }
+}
