@@ -4,14 +4,15 @@ use mathlib.Core.Path.{_≡_, refl, sym, ap, _∙_}
 use mathlib.Core.Bool.{Bool}
 use lib.ListN.{length}
 use Rattle.meaning.specs.Bytes.{Text}
-use Rattle.meaning.specs.Spec.{unsigned, sidesOf, hasColon, sidesRefusal, specRefusal, specOf}
+use Rattle.meaning.specs.Spec.{unsigned, sidesOf, hasColon, sidesRefusal, specRefusal, specOf, readSpec}
 use Rattle.parse.specs.declared.types.RefSpec.{RefSpec}
+use Rattle.parse.specs.declared.Parsed.{Parsed}
 use Rattle.parse.specs.declared.Parsed.the-variants as answers
-use Rattle.parse.specs.Places.{SidesWithin, specMeant, placesOf, parsedUnless, parsed}
+use Rattle.parse.specs.Places.{SidesWithin, specMeant, placesOf, parsedUnless, parsed, parsedMeant}
 use Rattle.parse.specs.Questions.{_orElse_, entryRefusal}
 use Rattle.parse.proofs.Eval.{stop}
 use Rattle.parse.proofs.Groups.{spec-questions}
-use Rattle.parse.proofs.Places.{places-meant, sides-within}
+use Rattle.parse.proofs.Places.{places-meant, sides-within, parsed-meant}
 
 -- a number other than 0 is a refusal
 refused-is : (n : ℕ) (r : RefSpec) → (n ≡ 0 → ⊥) → answers.Refused n ≡ parsedUnless n r
@@ -50,3 +51,7 @@ module _ (op : ℕ) (t : Text) (early : ℕ) (ee : early ≡ entryRefusal op t) 
 -- the places of the split stand within the text
 pub parse-within : (op : ℕ) (t : Text) (r : RefSpec) → r ≡ placesOf op t → SidesWithin (length t) r
 parse-within op t r e = rw e (sides-within op t)
+
+-- what is answered means what the meaning reads
+pub parsed-means : (op : ℕ) (t : Text) (r : Parsed) → r ≡ parsed op t → parsedMeant t r ≡ readSpec op t
+parsed-means op t r e = rw e (parsed-meant op t)

@@ -1,6 +1,7 @@
 // Reading one spec: its sign, its sides as places, and document 01's questions in their order. Port of the crate's parse.rs.
 ghost use mathlib.Core.Path.{_≡_};
-ghost use Rattle.parse.specs.Places.{parsed};
+ghost use Rattle.meaning.specs.Spec.{readSpec};
+ghost use Rattle.parse.specs.Places.{parsed, parsedMeant};
 
 mod questions;
 mod split;
@@ -19,7 +20,7 @@ pub enum Parsed {
 
 // Reads one spec for an operation, 0 fetch or 1 push.
 pub fn parse(op: u64, spec: &[u8]) -> Parsed
-    ensures { λ r. ⌜ r ≡ parsed op (now (spec .entry)) ⌝ }
+    ensures { λ r. ⌜ (r ≡ parsed op (now (spec .entry))) × (parsedMeant (now (spec .entry)) r ≡ readSpec op (now (spec .entry))) ⌝ }
 {
     let early = entry_refusal(op, spec);
     if early != 0 {

@@ -1,17 +1,28 @@
 -- What an answer of reading becomes: an instruction, a prefix. Assumes nothing.
 use Prim.Native.Nat.{ℕ}
-use mathlib.Core.Path.{_≡_, sym, _∙_}
+use mathlib.Core.Path.{_≡_, refl, sym, ap, _∙_}
+use lib.ListN.{length}
 use Rattle.meaning.specs.Bytes.{Text}
+use Rattle.meaning.specs.Spec.{accepted, readSpec}
+use Rattle.meaning.specs.Instruction.{instruction}
+use Rattle.meaning.specs.Prefix.{prefixOf, prefix}
+use Rattle.meaning.specs.Entries as entries
+use Rattle.meaning.specs.Entries.{_andThen_}
+use Rattle.parse.proofs.Answers.{read-accepted, read-refused, read-within}
+use Rattle.refspec.proofs.Instructions.{instruction-meant}
+use Rattle.refspec.proofs.Fronts.{prefix-meant, remote-meant, remote-within}
 use Rattle.parse.specs.declared.types.Side.{Side}
 use Rattle.parse.specs.declared.types.RefSpec.{RefSpec}
 use Rattle.refspec.specs.declared.instruction.Instruction.{Instruction}
 use Rattle.parse.specs.declared.Parsed.{Parsed}
 use Rattle.parse.specs.declared.Parsed.the-variants.{Spec, Refused}
+use Rattle.refspec.specs.declared.spec.Instructed.{Instructed}
+use Rattle.refspec.specs.declared.spec.Prefixed.{Prefixed}
 use Rattle.refspec.specs.declared.spec.Instructed.the-variants as instructed-as
 use Rattle.refspec.specs.declared.spec.Prefixed.the-variants as prefixed-as
 use Rattle.parse.specs.Places.{parsed}
-use Rattle.refspec.specs.Instructions.{instructionPlaces, instructedBy, instructed}
-use Rattle.refspec.specs.Prefixes.{remotePlace, prefixPlace, prefixedBy, prefixed}
+use Rattle.refspec.specs.Instructions.{instructionPlaces, instructedBy, instructed, instructedMeant}
+use Rattle.refspec.specs.Prefixes.{remotePlace, prefixPlace, prefixedBy, prefixed, prefixedMeant}
 
 module _ (op : ℕ) (t : Text) (p : Parsed) (ep : p ≡ parsed op t) where
   module _ (r : RefSpec) (e : p ≡ Spec r) where
@@ -30,3 +41,20 @@ module _ (op : ℕ) (t : Text) (p : Parsed) (ep : p ≡ parsed op t) where
   pub prefixed-no : (n : ℕ) → p ≡ Refused n → prefixed-as.Refused n ≡ prefixed op t
   unfolding prefixed
   prefixed-no n e = rw (sym ep ∙ e)
+
+-- what is answered means what the meaning says of the spec
+pub instructed-means : (op : ℕ) (t : Text) (r : Instructed) → r ≡ instructed op t → instructedMeant t r ≡ entries.instructed op t
+unfolding instructed entries.instructed
+instructed-means op t r e = rw e (go (parsed op t) refl)
+  where
+    go : (p : Parsed) → p ≡ parsed op t → instructedMeant t (instructedBy op p) ≡ (readSpec op t andThen λ s. accepted (instruction op s))
+    go (Spec q) h = rw (read-accepted op t (Spec q) h q refl) (ap accepted (instruction-meant op t q))
+    go (Refused n) h = rw (read-refused op t (Refused n) h n refl)
+
+pub prefixed-means : (op : ℕ) (t : Text) (r : Prefixed) → r ≡ prefixed op t → prefixedMeant t r ≡ entries.prefixed op t
+unfolding prefixed entries.prefixed prefix
+prefixed-means op t r e = rw e (go (parsed op t) refl)
+  where
+    go : (p : Parsed) → p ≡ parsed op t → prefixedMeant t (prefixedBy op t p) ≡ (readSpec op t andThen λ s. accepted (prefix op s))
+    go (Spec q) h = rw (read-accepted op t (Spec q) h q refl) (ap accepted (prefix-meant t (remotePlace op q) (remote-within op (length t) q (remotePlace op q) (read-within op t (Spec q) h q refl) refl) ∙ ap prefixOf (remote-meant op t q)))
+    go (Refused n) h = rw (read-refused op t (Refused n) h n refl)

@@ -3,7 +3,7 @@ use Prim.Native.Nat.{ℕ}
 use mathlib.Core.Bool.{Bool, true, false, cond}
 use mathlib.Core.Option.{Option, none, some}
 use Rattle.meaning.specs.Bytes.{Text, orEmpty}
-use Rattle.meaning.specs.Spec.{isNegative, isForce, push}
+use Rattle.meaning.specs.Spec.{Answer, accepted, refused, isNegative, isForce, push}
 use Rattle.meaning.specs.Instruction as meaning
 use Rattle.parse.specs.declared.types.Side.{Side}
 use Rattle.parse.specs.declared.types.RefSpec.{RefSpec}
@@ -53,3 +53,8 @@ instructedBy op (reading.Refused n) = answer.Refused n
 -- what a spec instructs
 unfoldable pub instructed : ℕ → Text → Instructed
 instructed op t = instructedBy op (parsed op t)
+
+-- what an answer means: the instruction, or the number of the question that refuses
+abbrev pub instructedMeant : Text → Instructed → Answer meaning.Instruction
+instructedMeant t (answer.To i) = accepted (instructionMeant t i)
+instructedMeant t (answer.Refused n) = refused n none

@@ -5,7 +5,7 @@ use mathlib.Core.List.{List, [], _∷_}
 use mathlib.Core.Option.{Option, none, some}
 use lib.ListN.{length}
 use Rattle.meaning.specs.Bytes.{Text}
-use Rattle.meaning.specs.Spec.{isNegative, push}
+use Rattle.meaning.specs.Spec.{Answer, accepted, refused, isNegative, push}
 use Rattle.meaning.specs.Prefix.{namePrefix}
 use Rattle.parse.specs.declared.types.Side.{Side}
 use Rattle.parse.specs.declared.types.Side.the-variants.{Absent, Part, Head}
@@ -14,7 +14,7 @@ use Rattle.parse.specs.declared.Parsed.{Parsed}
 use Rattle.parse.specs.declared.Parsed.the-variants as reading
 use Rattle.refspec.specs.declared.spec.Prefixed.{Prefixed}
 use Rattle.refspec.specs.declared.spec.Prefixed.the-variants as answer
-use Rattle.parse.specs.Places.{modeMeant, partAt, parsed}
+use Rattle.parse.specs.Places.{modeMeant, partAt, sideMeant, parsed}
 
 -- the side that prefixes are taken from: the source in fetch, the destination in push; a negative has none
 unfoldable pub remotePlace : ℕ → RefSpec → Side
@@ -44,3 +44,8 @@ prefixedBy op t (reading.Refused n) = answer.Refused n
 -- the prefix of a spec
 unfoldable pub prefixed : ℕ → Text → Prefixed
 prefixed op t = prefixedBy op t (parsed op t)
+
+-- what an answer means: the prefix, if there is one, or the number of the question that refuses
+abbrev pub prefixedMeant : Text → Prefixed → Answer (Option Text)
+prefixedMeant t (answer.Prefix side) = accepted (sideMeant t side)
+prefixedMeant t (answer.Refused n) = refused n none

@@ -1,6 +1,6 @@
 -- Each arm is one answer of reading, and the sides of an accepted spec stand within it. Assumes nothing.
 use Rattle.parse.proofs.Answers.{read-within}
-use Rattle.refspec.proofs.Answers.{prefixed-to, prefixed-no}
+use Rattle.refspec.proofs.Answers.{prefixed-to, prefixed-no, prefixed-means}
 use borrow.Author.Needs.{needs}
 use Rattle.refspec.proofs.spec.prefix.Statement.{statement}
 use Rattle.refspec.proofs.spec.prefix.Tie as tie
@@ -22,10 +22,10 @@ enum-known-n : tie.Need-enum-known-n
 enum-known-n c = search needs
 
 returns : tie.Need-returns
-returns c = search prefixed-to
+returns c = (search prefixed-to, search (prefixed-means, prefixed-to))
 
 returns-2 : tie.Need-returns-2
-returns-2 c = search prefixed-no
+returns-2 c = (search prefixed-no, search (prefixed-means, prefixed-no))
 
 pub prefix-spec : {M : Type 1} → statement M
 prefix-spec =
