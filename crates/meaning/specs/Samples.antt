@@ -1,4 +1,4 @@
--- Samples beside the starred table, computed: where document 01 and its readings could be taken differently, and limits on both sides.
+-- Samples beside the starred table, computed: where document 01 and its readings could be taken differently.
 use Prim.Native.Nat.{ℕ}
 use mathlib.Core.Path.{_≡_, refl}
 use mathlib.Core.Bool.{true, false}
@@ -241,29 +241,6 @@ pub program :
     × (withinLimit (replicate 65537 97) ≡ refused 17 none)
 unfolding everything
 program = (refl, refl, refl, refl, refl, refl, refl, refl, refl, refl)
-
--- 65,535 bytes of items
-abbrev fullItems : List Text
-fullItems = replicate 15 (replicate 4096 97) ++ (replicate 4063 97 ∷ [])
-
--- the limits, on either side
-pub limits :
-    (readSpec 0 (replicate 4096 97) ≡ accepted (spec Normal (some (replicate 4096 97)) none))
-    × (readSpec 0 (replicate 4097 97) ≡ refused 1 none)
-    × (readSpec 0 (94 ∷ replicate 39 97) ≡ accepted (spec Negative (some (replicate 39 97)) none))
-    × (readSpec 0 (94 ∷ replicate 40 97) ≡ refused 11 none)
-    × (readSpec 0 (94 ∷ replicate 41 97) ≡ refused 11 none)
-    × (readSpecs 0 (replicate 256 0) ≡ accepted (replicate 256 (spec Normal (some (bytes "HEAD")) none)))
-    × (readSpecs 0 (replicate 257 0) ≡ refused 14 (some 256))
-    × (readItems (replicate 1024 0) ≡ accepted (replicate 1024 []))
-    × (readItems (replicate 1025 0) ≡ refused 14 (some 1024))
-    × (readItems (128 ∷ 32 ∷ replicate 4096 97) ≡ accepted (replicate 4096 97 ∷ []))
-    × (readItems (129 ∷ 32 ∷ replicate 4097 97) ≡ refused 15 (some 0))
-    × (length (recordBytes fullItems) ≡ 65535)
-    × (readItems (recordBytes fullItems) ≡ accepted fullItems)
-    × (readItems (replicate 65536 0) ≡ refused 12 none)
-unfolding everything
-limits = (refl, refl, refl, refl, refl, refl, refl, refl, refl, refl, refl, refl, refl, refl)
 
 -- the name rules, on either side of each
 pub names :

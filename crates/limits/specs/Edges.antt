@@ -1,0 +1,37 @@
+-- The limits of document 01 on either side, computed. They stand apart from the other samples since they take longer than all of them.
+use mathlib.Core.Path.{_≡_, refl}
+use mathlib.Core.List.{List, [], _∷_, _++_}
+use mathlib.Core.Option.{Option, none, some}
+use lib.ListN.{length, replicate}
+use Rattle.meaning.specs.Bytes.{Text, bytes}
+use Rattle.meaning.specs.Spec.{accepted, refused, Mode, Normal, Negative, Spec, readSpec}
+use Rattle.meaning.specs.Number.{recordBytes}
+use Rattle.meaning.specs.Lists.{readSpecs, readItems}
+use Rattle.meaning.specs.Everything.{everything}
+
+-- a spec, written short
+abbrev spec : Mode → Option Text → Option Text → Spec
+spec m s d = record { mode = m; source = s; destination = d }
+
+-- 65,535 bytes of items
+abbrev fullItems : List Text
+fullItems = replicate 15 (replicate 4096 97) ++ (replicate 4063 97 ∷ [])
+
+-- the limits, on either side
+pub limits :
+    (readSpec 0 (replicate 4096 97) ≡ accepted (spec Normal (some (replicate 4096 97)) none))
+    × (readSpec 0 (replicate 4097 97) ≡ refused 1 none)
+    × (readSpec 0 (94 ∷ replicate 39 97) ≡ accepted (spec Negative (some (replicate 39 97)) none))
+    × (readSpec 0 (94 ∷ replicate 40 97) ≡ refused 11 none)
+    × (readSpec 0 (94 ∷ replicate 41 97) ≡ refused 11 none)
+    × (readSpecs 0 (replicate 256 0) ≡ accepted (replicate 256 (spec Normal (some (bytes "HEAD")) none)))
+    × (readSpecs 0 (replicate 257 0) ≡ refused 14 (some 256))
+    × (readItems (replicate 1024 0) ≡ accepted (replicate 1024 []))
+    × (readItems (replicate 1025 0) ≡ refused 14 (some 1024))
+    × (readItems (128 ∷ 32 ∷ replicate 4096 97) ≡ accepted (replicate 4096 97 ∷ []))
+    × (readItems (129 ∷ 32 ∷ replicate 4097 97) ≡ refused 15 (some 0))
+    × (length (recordBytes fullItems) ≡ 65535)
+    × (readItems (recordBytes fullItems) ≡ accepted fullItems)
+    × (readItems (replicate 65536 0) ≡ refused 12 none)
+unfolding everything
+limits = (refl, refl, refl, refl, refl, refl, refl, refl, refl, refl, refl, refl, refl, refl)

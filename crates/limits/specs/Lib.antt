@@ -1,0 +1,2 @@
+-- `Edges`: the limits of document 01, on either side.
+pub mod Edges
