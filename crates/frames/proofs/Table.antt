@@ -28,6 +28,7 @@ rightTable [] (e ∷ es) = false
 rightTable (f ∷ fs) [] = false
 rightTable (f ∷ fs) (e ∷ es) = rightEntry f e and rightTable fs es
 
+-- an entry that passes the test is the frame
 right-entry : (f : Frame) (e : Entry) → rightEntry f e ≡ true → Framing f (e .0) (e .1) (e .2)
 right-entry f e r =
     let a = same (take (e .1) (e .0)) (f .leading) in

@@ -1,4 +1,4 @@
-//! The six frames of a partial name, and the candidates that they make.
+// The six frames of a partial name, and the candidates that they make. Port of `expand_partial_name` in the crate's spec.rs.
 ghost use mathlib.Core.Path.{_≡_};
 ghost use Prim.Native.Nat.{_+_, _<_, _≤_};
 ghost use lib.ListN.{length};

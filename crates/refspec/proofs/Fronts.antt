@@ -1,14 +1,14 @@
 -- The prefix of a name is what it begins with, and its place denotes it. Assumes nothing.
-use Prim.Native.Nat.{ℕ, zero, suc, _+_, _-_, _≤_, _<_}
+use Prim.Native.Nat.{ℕ, suc, _+_, _-_, _≤_, _<_}
 use native.Mathlib.Nat.{suc-ne-zero}
 use native.Mathlib.Omega.{arith}
 use mathlib.Core.Path.{_≡_, refl, sym, ap, _∙_}
 use mathlib.Core.Bool.{Bool, true, false, not, cond}
-use mathlib.Core.List.{List, [], _∷_}
+use mathlib.Core.List.{[], _∷_}
 use mathlib.Core.Option.{Option, none, some}
-use borrow.Author.Tests.{eq-eqb, ne-eqb, eqb-true, not-true, not-false}
+use borrow.Author.Tests.{eqb-true, not-true, not-false}
 use lib.Dec.{eqb}
-use lib.ListN.{length, take, drop, length-take, length-drop}
+use lib.ListN.{length, take, drop}
 use lib.Seq.{take-all, take-take}
 use Rattle.meaning.specs.Bytes.{Text, bytes, star, _and_, _or_, any, same, begins, hasByte}
 use Rattle.meaning.specs.Spec.{isNegative, push, starred}
@@ -21,6 +21,7 @@ use Rattle.parse.specs.Places.{modeMeant, partAt, sideMeant, Within, SidesWithi
 use Rattle.parse.proofs.Parts.{part-of, part-length}
 use Rattle.refspec.specs.Prefixes.{remotePlace, lengthOr0, prefixAt, prefixPlace}
 
+-- two facts about constants
 true-not-false : true ≡ false → ⊥
 true-not-false e = let z : _≡_ {A = ℕ} 0 1 = cc in omega arith
 
@@ -30,7 +31,7 @@ lt-ne h e = omega arith
 -- ---- the text before the star
 
 -- it has as many bytes as the place of the first star says
-pub before-star-length : (t : Text) → length (beforeStar t) ≡ firstAt star t
+before-star-length : (t : Text) → length (beforeStar t) ≡ firstAt star t
 before-star-length [] = refl
 before-star-length (x ∷ t) = go (eqb star x) (before-star-length t)
   where
@@ -56,7 +57,7 @@ first-within b (x ∷ t) = go (eqb b x) (first-within b t)
     go true e = omega arith
     go false e = omega arith
 
--- a text has a star if the first one stands in it
+-- a text has no star if the first one stands at its end
 no-star : (t : Text) → firstAt star t ≡ length t → hasByte star t ≡ false
 no-star [] e = refl
 no-star (x ∷ t) e = go (eqb star x) refl e (no-star t)
@@ -65,6 +66,7 @@ no-star (x ∷ t) e = go (eqb star x) refl e (no-star t)
     go true h z f = absurd (suc-ne-zero (length t) (sym z))
     go false h z f = rw h (f (omega arith))
 
+-- and has one if it stands before that
 a-star : (t : Text) → (firstAt star t ≡ length t → ⊥) → hasByte star t ≡ true
 a-star [] n = absurd (n refl)
 a-star (x ∷ t) n = go (eqb star x) refl n (a-star t)
@@ -73,20 +75,23 @@ a-star (x ∷ t) n = go (eqb star x) refl n (a-star t)
     go true h m f = rw h
     go false h m f = rw h (f (λ e. m (ap suc e)))
 
--- ---- prefix_length
+-- ---- how many bytes a prefix has, by the branches of `prefix_length`
 
 module _ (t : Text) where
   module _ (h : Bool) (eh : h ≡ same t (bytes "HEAD")) where
+    -- `HEAD` is its own prefix
     pub length-head : h ≡ true → length t ≡ lengthOr0 (namePrefix t)
     unfolding namePrefix
     length-head e = rw (sym eh ∙ e)
 
     module _ (nh : h ≡ false) (r : Bool) (er : r ≡ begins (bytes "refs/") t) where
+      -- another name outside `refs/` has none
       pub length-other : not r ≡ true → 0 ≡ lengthOr0 (namePrefix t)
       unfolding namePrefix
       length-other e = rw (sym eh ∙ nh, sym er ∙ not-true r e)
 
       module _ (yr : not r ≡ false) (k : ℕ) (ek : k ≡ firstAt star t) where
+        -- a name beginning `refs/` without a star is its own
         pub length-plain : k ≡ length t → k ≡ lengthOr0 (namePrefix t)
         unfolding namePrefix starred
         length-plain e = rw (sym eh ∙ nh, sym er ∙ not-false r yr, no-star t (sym ek ∙ e)) e
@@ -96,27 +101,31 @@ module _ (t : Text) where
           unfolding starred
           starry = a-star t (λ e. ns (ek ∙ e))
 
+          -- one that begins `refs/*` has none
           pub length-refs-star : s ≡ true → 0 ≡ lengthOr0 (namePrefix t)
           unfolding namePrefix
           length-refs-star e = rw (sym eh ∙ nh, sym er ∙ not-false r yr, starry, sym es ∙ e)
 
           module _ (n : s ≡ false) (b : Bool) (eb : b ≡ hasByte 93 t) where
+            -- nor has a starred one with a bracket
             pub length-bracket : b ≡ true → 0 ≡ lengthOr0 (namePrefix t)
             unfolding namePrefix
             length-bracket e = rw (sym eh ∙ nh, sym er ∙ not-false r yr, starry, sym es ∙ n, sym eb ∙ e)
 
+            -- any other has what stands before its star
             pub length-star : b ≡ false → k ≡ lengthOr0 (namePrefix t)
             unfolding namePrefix
             length-star e = rw (sym eh ∙ nh, sym er ∙ not-false r yr, starry, sym es ∙ n, sym eb ∙ e, before-star-length t) ek
 
 -- ---- a prefix is a front
 
--- what is told of a prefix of t, if there is one: some bytes that t begins with
+-- some bytes that a text begins with
 pub record Front (t p : Text) : Type 0 where
   pub some-bytes : 0 < length p
   pub at-most : length p ≤ length t
   pub front : take (length p) t ≡ p
 
+-- a prefix of a text, if there is one, is such bytes
 abbrev pub IsFront : Text → Option Text → Type 0
 IsFront t none = Unit {0}
 IsFront t (some p) = Front t p
@@ -125,10 +134,12 @@ IsFront t (some p) = Front t p
 whole-front : (t : Text) → 0 < length t → IsFront t (some t)
 whole-front t h = record { some-bytes = h; at-most = omega arith; front = take-all (length t) t (omega arith) }
 
+-- what is `HEAD` has a byte
 same-some : (t : Text) → same t (bytes "HEAD") ≡ true → 0 < length t
 same-some [] e = absurd (true-not-false (sym e))
 same-some (x ∷ t) e = omega arith
 
+-- what begins `refs/` has one before its star
 begins-some : (t : Text) → begins (bytes "refs/") t ≡ true → 0 < length (beforeStar t)
 begins-some [] e = absurd (true-not-false (sym e))
 begins-some (x ∷ t) e = rw (sym (eqb-true 114 x (first (eqb 114 x) e))) (omega arith)
@@ -137,6 +148,7 @@ begins-some (x ∷ t) e = rw (sym (eqb-true 114 x (first (eqb 114 x) e))) (omega
     first true h = refl
     first false h = h
 
+-- the prefix of a name is what it begins with
 pub prefix-front : (t : Text) → IsFront t (namePrefix t)
 unfolding namePrefix
 prefix-front t = go (same t (bytes "HEAD")) (begins (bytes "refs/") t) (starred t) (begins (bytes "refs/*") t or hasByte 93 t) refl refl
@@ -164,17 +176,20 @@ module _ (at : ℕ) (u : Text) (o : Option Text) (is : IsFront u o) where
       go none n = absurd (n refl)
       go (some p) n = refl
 
+-- the place of the prefix of the n bytes that begin at a place, by the length that `prefix_length` answers
 module _ (t : Text) (at n k : ℕ) (ek : k ≡ lengthOr0 (namePrefix (take (at + n - at) (drop at t)))) where
   length-is : k ≡ lengthOr0 (namePrefix (partAt t at n))
   length-is = rw part-of at ek
 
+  -- 0 is no prefix
   pub part-prefix-none : k ≡ 0 → Absent ≡ prefixAt at (namePrefix (partAt t at n))
   part-prefix-none e = prefix-none at (partAt t at n) (namePrefix (partAt t at n)) (prefix-front (partAt t at n)) (sym length-is ∙ e)
 
+  -- any other is the length of one
   pub part-prefix-some : (k ≡ 0 → ⊥) → Part at k ≡ prefixAt at (namePrefix (partAt t at n))
   part-prefix-some m = rw length-is (prefix-some at (partAt t at n) (namePrefix (partAt t at n)) (prefix-front (partAt t at n)) (λ e. m (length-is ∙ e)))
 
--- the arms of a `match` on a side
+-- the arm of a `match` on a side that is a part
 pub prefix-of-part : (t : Text) (side r : Side) (at n : ℕ) → side ≡ Part at n → r ≡ prefixAt at (namePrefix (partAt t at n)) → r ≡ prefixPlace t side
 prefix-of-part t side r at n e h = rw e h
 
@@ -185,13 +200,14 @@ prefix-at-meant t at n none h f = refl
 prefix-at-meant t at n (some p) h f =
     ap some (sym (take-take (length p) n (drop at t) (omega (arith, f .at-most, part-length t at n h))) ∙ f .front)
 
+-- the place of the prefix of a side denotes the prefix of what the side denotes
 pub prefix-meant : (t : Text) (side : Side) → Within (length t) side → sideMeant t (prefixPlace t side) ≡ prefixOf (sideMeant t side)
 unfolding namePrefix
 prefix-meant t Absent w = refl
 prefix-meant t (Part at n) w = prefix-at-meant t at n (namePrefix (partAt t at n)) w (prefix-front (partAt t at n))
 prefix-meant t Head w = refl
 
--- the side that prefixes are taken from
+-- the side that prefixes are taken from denotes the meaning's
 pub remote-meant : (op : ℕ) (t : Text) (r : RefSpec) → sideMeant t (remotePlace op r) ≡ remoteSide op (specMeant t r)
 unfolding remotePlace remoteSide specMeant
 remote-meant op t r = go (isNegative (modeMeant (r .mode))) (push op)
@@ -211,5 +227,6 @@ remote-within op len r side w e = rw e (go (isNegative (modeMeant (r .mode))) (p
     go false true = w .dst-within
     go false false = w .src-within
 
+-- the prefix of a spec is that of the side it is taken from
 pub prefix-of-remote : (op : ℕ) (t : Text) (r : RefSpec) (side p : Side) → side ≡ remotePlace op r → p ≡ prefixPlace t side → p ≡ prefixPlace t (remotePlace op r)
 prefix-of-remote op t r side p e h = rw (← e) h

@@ -2,7 +2,7 @@
 use Prim.Native.Nat.{ℕ}
 use mathlib.Core.Path.{_≡_, refl, sym, _∙_}
 use mathlib.Core.Bool.{Bool, true, false, cond}
-use borrow.Author.Tests.{eq-eqb, ne-eqb}
+use borrow.Author.Tests.{ne-eqb}
 use Rattle.meaning.specs.Bytes.{Text}
 use Rattle.meaning.specs.Spec.{isNegative, isForce, push}
 use Rattle.meaning.specs.Instruction.{fetchSides, fetchInstruction, pushSides, pushInstruction, instruction}
@@ -18,21 +18,25 @@ use Rattle.refspec.specs.Instructions.{sideText, fetchPlaces, pushPlaces
 
 -- a spec that is not negative, by its operation
 module _ (op : ℕ) (r : RefSpec) (n f : Bool) (i : Instruction) (en : n ≡ isNegative (modeMeant (r .mode))) (positive : n ≡ false) (ef : f ≡ isForce (modeMeant (r .mode))) where
+  -- a push
   pub instruct-push : op ≡ 1 → i ≡ pushPlaces f (r .src) (r .dst) → i ≡ instructionPlaces op r
   unfolding instructionPlaces
   instruct-push o h = rw (sym en ∙ positive, o, ← ef) h
 
+  -- a fetch
   pub instruct-fetch : (op ≡ 1 → ⊥) → i ≡ fetchPlaces f (r .src) (r .dst) → i ≡ instructionPlaces op r
   unfolding instructionPlaces
   instruct-fetch o h = rw (sym en ∙ positive, ne-eqb op 1 o, ← ef) h
 
 module _ (t : Text) (f : Bool) (src : Side) where
+  -- the places of a fetch mean it
   fetch-meant : (dst : Side) → instructionMeant t (fetchPlaces f src dst) ≡ fetchSides f (sideText t src) (sideMeant t dst)
   unfolding fetchPlaces
   fetch-meant Absent = refl
   fetch-meant (Part at n) = refl
   fetch-meant Head = refl
 
+-- the places of a push mean it
 push-meant : (t : Text) (f : Bool) (src dst : Side) → instructionMeant t (pushPlaces f src dst) ≡ pushSides f (sideMeant t src) (sideMeant t dst)
 unfolding pushPlaces
 push-meant t f Absent Absent = refl

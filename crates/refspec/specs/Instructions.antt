@@ -1,7 +1,8 @@
 -- The instruction of a spec as places, and the instruction that it means.
 use Prim.Native.Nat.{ℕ}
-use mathlib.Core.Bool.{Bool, true, false, cond}
-use mathlib.Core.Option.{Option, none, some}
+use mathlib.Core.Path.{_≡_}
+use mathlib.Core.Bool.{Bool, true, cond}
+use mathlib.Core.Option.{none}
 use Rattle.meaning.specs.Bytes.{Text, orEmpty}
 use Rattle.meaning.specs.Spec.{Answer, accepted, refused, isNegative, isForce, push}
 use Rattle.meaning.specs.Instruction as meaning
@@ -30,6 +31,16 @@ unfoldable pub instructionPlaces : ℕ → RefSpec → Instruction
 instructionPlaces op r =
     cond (isNegative (modeMeant (r .mode))) (cond (push op) (PushExclude (r .src)) (FetchExclude (r .src)))
     (cond (push op) (pushPlaces (isForce (modeMeant (r .mode))) (r .src) (r .dst)) (fetchPlaces (isForce (modeMeant (r .mode))) (r .src) (r .dst)))
+
+-- the sides that an instruction carries are there
+abbrev pub SidesPresent : Instruction → Type 0
+SidesPresent (FetchOnly src) = isPresent src ≡ true
+SidesPresent (FetchExclude src) = isPresent src ≡ true
+SidesPresent (FetchAndUpdate src dst force) = (isPresent src ≡ true) × (isPresent dst ≡ true)
+SidesPresent (PushAllMatchingBranches force) = Unit {0}
+SidesPresent (PushDelete dst) = isPresent dst ≡ true
+SidesPresent (PushMatching src dst force) = (isPresent src ≡ true) × (isPresent dst ≡ true)
+SidesPresent (PushExclude src) = isPresent src ≡ true
 
 -- the text of a side, no bytes where it is absent
 abbrev pub sideText : Text → Side → Text

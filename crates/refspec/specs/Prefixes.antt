@@ -1,7 +1,6 @@
--- The prefix of a spec as a place, and what a spec yields for its prefix list.
+-- The prefix of a spec as a place, and the prefix that it means.
 use Prim.Native.Nat.{ℕ}
-use mathlib.Core.Bool.{Bool, true, false, cond}
-use mathlib.Core.List.{List, [], _∷_}
+use mathlib.Core.Bool.{cond}
 use mathlib.Core.Option.{Option, none, some}
 use lib.ListN.{length}
 use Rattle.meaning.specs.Bytes.{Text}

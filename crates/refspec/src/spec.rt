@@ -3,7 +3,7 @@ ghost use mathlib.Core.Path.{_≡_};
 ghost use mathlib.Core.Bool.{cond};
 ghost use Prim.Native.Nat.{_+_, _≤_};
 ghost use lib.ListN.{length};
-ghost use Rattle.meaning.specs.Spec.{isForce, push};
+ghost use Rattle.meaning.specs.Spec.{isForce};
 ghost use Rattle.meaning.specs.Prefix.{namePrefix};
 ghost use Rattle.meaning.specs.Entries as entries;
 ghost use Rattle.parse.specs.Places.{modeMeant, isPresent, partAt, Within, SidesWithin};
@@ -111,15 +111,15 @@ pub fn remote(op: u64, r: RefSpec) -> Side
     ensures { λ s. ⌜ s ≡ remotePlace op r ⌝ }
 {
     let m = r.mode;
-    let src = r.src;
-    let dst = r.dst;
+    let source = r.src;
+    let destination = r.dst;
     if is_negative(m) {
         return Side::Absent;
     }
     if op == 1 {
-        return dst;
+        return destination;
     }
-    src
+    source
 }
 
 // How many bytes the prefix of a name has, 0 where it has none.

@@ -19,7 +19,7 @@ use Rattle.vasigmon.specs.declared.SpecAnswer.{SpecAnswer}
 use Rattle.vasigmon.specs.declared.InstructionAnswer.{InstructionAnswer}
 use Rattle.vasigmon.specs.declared.PrefixAnswer.{PrefixAnswer}
 
--- the modes
+-- the number of a mode: 0 normal, 1 force, 2 negative
 abbrev pub modeNumber : Mode → ℕ
 modeNumber Normal = 0
 modeNumber Force = 1

@@ -4,20 +4,20 @@ use native.Mathlib.Omega.{arith}
 use native.Mathlib.Nat.{add-zero}
 use mathlib.Core.Path.{_≡_, refl, sym, ap, _∙_}
 use mathlib.Core.Bool.{Bool, true, false, cond}
-use mathlib.Core.List.{List, [], _∷_, _++_, append-nil}
-use mathlib.Core.Option.{Option, none, some}
-use lib.ListN.{length, drop, length-append}
-use Rattle.meaning.specs.Bytes.{Text, bytes}
-use Rattle.meaning.specs.Spec.{Answer, accepted, refused, isNegative, isForce, push, readSpec}
-use Rattle.meaning.specs.Instruction.{instruction, instructionText, canonicalText}
-use Rattle.meaning.specs.Buffers.{Written, MeetsOne}
+use mathlib.Core.List.{[], _∷_, _++_, append-nil}
+use mathlib.Core.Option.{none, some}
+use lib.ListN.{length, length-append}
+use Rattle.meaning.specs.Bytes.{Text}
+use Rattle.meaning.specs.Spec.{accepted, isNegative, isForce, push}
+use Rattle.meaning.specs.Instruction.{instructionText, canonicalText}
+use Rattle.meaning.specs.Buffers.{MeetsOne}
 use Rattle.meaning.specs.Entries.{toBstring}
 use Rattle.promises.proofs.Buffers.{meets-refused, meets-short, meets-written}
 use Rattle.text.specs.Splice.{splice}
 use Rattle.text.proofs.Splices.{splice-none, splice-start}
 use Rattle.text.proofs.Pairs.{pair-first, pair-second, pair-put}
 use Rattle.parse.specs.declared.types.Side.{Side}
-use Rattle.parse.specs.declared.types.Side.the-variants.{Absent, Part, Head}
+use Rattle.parse.specs.declared.types.Side.the-variants.{Absent}
 use Rattle.parse.specs.declared.types.RefSpec.{RefSpec}
 use Rattle.parse.specs.declared.Parsed.{Parsed}
 use Rattle.parse.specs.declared.Parsed.the-variants.{Spec, Refused}
@@ -33,41 +33,52 @@ use Rattle.refspec.proofs.Instructions.{instruction-meant}
 -- ---- the pieces
 
 module _ (force : Bool) (src dst : Side) where
+  -- a forced text has a `+`
   pub two-forced : force ≡ true → _≡_ {A = Pieces} (record { sign = 43; src = src; colon = true; dst = dst }) (twoPieces force src dst)
   two-forced e = rw e
 
+  -- another has no sign
   pub two-plain : force ≡ false → _≡_ {A = Pieces} (record { sign = 0; src = src; colon = true; dst = dst }) (twoPieces force src dst)
   two-plain e = rw e
 
 -- the arms of a `match` on an instruction
 module _ (i : Instruction) (p : Pieces) where
+  -- fetch-only
   pub pieces-fetch-only : (src : Side) → i ≡ FetchOnly src → p ≡ onePiece 0 src → p ≡ piecesOf i
   pieces-fetch-only src e h = rw e h
 
+  -- fetch, negative
   pub pieces-fetch-exclude : (src : Side) → i ≡ FetchExclude src → p ≡ onePiece 94 src → p ≡ piecesOf i
   pieces-fetch-exclude src e h = rw e h
 
+  -- fetch and update
   pub pieces-update : (src dst : Side) (f : Bool) → i ≡ FetchAndUpdate src dst f → p ≡ twoPieces f src dst → p ≡ piecesOf i
   pieces-update src dst f e h = rw e h
 
+  -- push of all matching branches
   pub pieces-all : (f : Bool) → i ≡ PushAllMatchingBranches f → p ≡ twoPieces f Absent Absent → p ≡ piecesOf i
   pieces-all f e h = rw e h
 
+  -- delete
   pub pieces-delete : (dst : Side) → i ≡ PushDelete dst → p ≡ twoPieces false Absent dst → p ≡ piecesOf i
   pieces-delete dst e h = rw e h
 
+  -- push
   pub pieces-matching : (src dst : Side) (f : Bool) → i ≡ PushMatching src dst f → p ≡ twoPieces f src dst → p ≡ piecesOf i
   pieces-matching src dst f e h = rw e h
 
+  -- push, negative
   pub pieces-push-exclude : (src : Side) → i ≡ PushExclude src → p ≡ onePiece 94 src → p ≡ piecesOf i
   pieces-push-exclude src e h = rw e h
 
 -- ---- their lengths
 
+-- a sign that is there is one byte
 pub sign-some : (sign : ℕ) → (sign ≡ 0 → ⊥) → 1 ≡ length (signText sign)
 sign-some zero n = absurd (n refl)
 sign-some (suc k) n = refl
 
+-- the lengths of the pieces add up
 pub pieces-length : (t : Text) (p : Pieces) (a b c d : ℕ) → a ≡ length (signText (p .sign)) → b ≡ length (sideText t (p .src)) → c ≡ length (colonText (p .colon)) → d ≡ length (sideText t (p .dst)) → a + b + c + d ≡ length (piecesText t p)
 unfolding piecesText
 pieces-length t p a b c d ea eb ec ed =
@@ -80,13 +91,17 @@ pieces-length t p a b c d ea eb ec ed =
 
 -- ---- writing them
 
+-- a sign
 module _ (d : Text) (at sign : ℕ) where
+  -- none writes nothing
   pub sign-none-put : sign ≡ 0 → d ≡ splice d at (signText sign)
   sign-none-put e = rw e (sym (splice-none d at))
 
+  -- and ends where it begins
   pub sign-none-end : sign ≡ 0 → at ≡ at + length (signText sign)
   sign-none-end e = rw e (sym (add-zero at))
 
+  -- one that is there is its byte
   sign-is : (sign ≡ 0 → ⊥) → signText sign ≡ sign ∷ []
   sign-is n = go sign n
     where
@@ -95,29 +110,38 @@ module _ (d : Text) (at sign : ℕ) where
       go (suc k) n = refl
 
   module _ (n : sign ≡ 0 → ⊥) where
+    -- has room
     pub sign-room : at + length (signText sign) ≤ length d → at < length d
     sign-room h = let g : at + 1 ≤ length d = rw (sign-is n) at h in omega arith
 
+    -- is written as that byte
     pub sign-put : (o : Text) → o ≡ splice d at (sign ∷ []) → o ≡ splice d at (signText sign)
     sign-put o h = rw (sign-is n) h
 
+    -- and ends after it
     pub sign-end : (r : ℕ) → r ≡ at + 1 → r ≡ at + length (signText sign)
     sign-end r h = rw (sign-is n) h
 
+-- a colon
 module _ (d : Text) (at : ℕ) (colon-there : Bool) where
+  -- none writes nothing
   pub colon-none-put : colon-there ≡ false → d ≡ splice d at (colonText colon-there)
   colon-none-put e = rw e (sym (splice-none d at))
 
+  -- and ends where it begins
   pub colon-none-end : colon-there ≡ false → at ≡ at + length (colonText colon-there)
   colon-none-end e = rw e (sym (add-zero at))
 
   module _ (e : colon-there ≡ true) where
+    -- one that is there has room
     pub colon-room : at + length (colonText colon-there) ≤ length d → at < length d
     colon-room h = let g : at + 1 ≤ length d = rw e at h in omega arith
 
+    -- is written as its byte
     pub colon-put : (o : Text) → o ≡ splice d at (58 ∷ []) → o ≡ splice d at (colonText colon-there)
     colon-put o h = rw e h
 
+    -- and ends after it
     pub colon-end : (r : ℕ) → r ≡ at + 1 → r ≡ at + length (colonText colon-there)
     colon-end r h = rw e h
 
@@ -127,13 +151,16 @@ module _ (t d : Text) (p : Pieces) (fits : length (piecesText t p) ≤ length d)
   unfolding piecesText
   both = omega arith
 
+  -- the front has room
   pub front-room : 0 + length (signText (p .sign) ++ sideText t (p .src)) ≤ length d
   front-room = pair-first d 0 (signText (p .sign) ++ sideText t (p .src)) (colonText (p .colon) ++ sideText t (p .dst)) both
 
   module _ (o : Text) (i : ℕ) (eo : o ≡ splice d 0 (signText (p .sign) ++ sideText t (p .src))) (ei : i ≡ 0 + length (signText (p .sign) ++ sideText t (p .src))) where
+    -- so has the back after it
     pub back-room : i + length (colonText (p .colon) ++ sideText t (p .dst)) ≤ length o
     back-room = pair-second d 0 (signText (p .sign) ++ sideText t (p .src)) (colonText (p .colon) ++ sideText t (p .dst)) both o i eo ei
 
+    -- and both are the whole text
     pub all-written : (o₂ : Text) → o₂ ≡ splice o i (colonText (p .colon) ++ sideText t (p .dst)) → o₂ ≡ splice d 0 (piecesText t p)
     unfolding piecesText
     all-written o₂ e = pair-put d 0 (signText (p .sign) ++ sideText t (p .src)) (colonText (p .colon) ++ sideText t (p .dst)) both o i eo ei o₂ e
@@ -154,7 +181,7 @@ pieces-text t (PushMatching src dst true) = refl
 pieces-text t (PushMatching src dst false) = refl
 pieces-text t (PushExclude src) = ap (λ (l : Text). 94 ∷ l) (append-nil (sideText t src))
 
--- what an instruction's pieces are within, its spec's sides are
+-- an instruction's pieces stand within what its spec's sides stand within
 module _ (len : ℕ) where
   fetch-pieces : (f : Bool) (src dst : Side) → Within len src → Within len dst → PiecesWithin len (piecesOf (fetchPlaces f src dst))
   unfolding fetchPlaces
@@ -185,6 +212,7 @@ module _ (len : ℕ) where
       go false false = fetch-pieces (isForce (modeMeant (r .mode))) (r .src) (r .dst) (w .src-within) (w .dst-within)
 
 module _ (op : ℕ) (t : Text) (r : RefSpec) (i : Instruction) (p : Pieces) (ei : i ≡ instructionPlaces op r) (ep : p ≡ piecesOf i) where
+  -- the pieces of a spec stand within it
   pub pieces-within : (len : ℕ) → SidesWithin len r → PiecesWithin len p
   pieces-within len w = rw (ep, ei) (instruction-pieces len op r w)
 
@@ -194,25 +222,30 @@ module _ (op : ℕ) (t : Text) (r : RefSpec) (i : Instruction) (p : Pieces) (ei 
   canonical-is = ap (piecesText t) (ep ∙ ap piecesOf ei) ∙ pieces-text t (instructionPlaces op r) ∙ ap instructionText (instruction-meant op t r)
 
   module _ (size : ℕ) (es : size ≡ length (piecesText t p)) (entry : Text) where
+    -- a buffer that is too short is told 17 and the text's length, and kept
     pub canonical-short : length entry < size → MeetsOne (accepted (some (canonicalText op (specMeant t r)) ∷ [])) entry entry 17 0 size
     canonical-short h =
         let n : length entry < length (piecesText t p) = rw es at h in
         rw (← canonical-is) (meets-short (accepted (some (piecesText t p) ∷ [])) entry entry (piecesText t p) 17 0 size refl n refl refl refl es)
 
+    -- any other has room
     pub canonical-room : size ≤ length entry → length (piecesText t p) ≤ length entry
     canonical-room h = rw es at h
 
+    -- and holds the text afterwards
     pub canonical-written : (exit : Text) → size ≤ length entry → exit ≡ splice entry 0 (piecesText t p) → MeetsOne (accepted (some (canonicalText op (specMeant t r)) ∷ [])) entry exit 0 0 size
     canonical-written exit h e =
         rw (← canonical-is) (meets-written (accepted (some (piecesText t p) ∷ [])) entry exit (piecesText t p) 0 0 size refl (canonical-room h) (e ∙ splice-start entry (piecesText t p)) refl refl es)
 
 -- ---- the entry
 
+-- an accepted spec is written
 module _ (op : ℕ) (t : Text) (answer : Parsed) (ea : answer ≡ parsed op t) (entry exit : Text) where
   pub bstring-accepted : (r : RefSpec) (a b c : ℕ) → answer ≡ Spec r → MeetsOne (accepted (some (canonicalText op (specMeant t r)) ∷ [])) entry exit a b c → MeetsOne (toBstring op t) entry exit a b c
   unfolding toBstring
   bstring-accepted r a b c e m = rw (read-accepted op t answer ea r e) m
 
+-- a refused one leaves the buffer as it was
 pub bstring-refused : (op : ℕ) (t : Text) (answer : Parsed) (entry : Text) (n : ℕ) → answer ≡ parsed op t → answer ≡ Refused n → MeetsOne (toBstring op t) entry entry n 0 0
 unfolding toBstring
 bstring-refused op t answer entry n ea e = meets-refused (toBstring op t) entry entry n none n 0 0 (rw (read-refused op t answer ea n e)) refl refl refl refl

@@ -3,9 +3,6 @@ use Rattle.vasigmon.proofs.Cases.{place-is}
 use borrow.Author.Needs.{needs}
 use Rattle.vasigmon.proofs.place.Statement.{statement}
 use Rattle.vasigmon.proofs.place.Tie as tie
-use Rattle.vasigmon.proofs.place.Reads as reads
-use Rattle.vasigmon.proofs.place.Lts as lts
-use Rattle.vasigmon.proofs.side_answer.Reads as side-answer-reads
 
 side-answer-requires : tie.Need-side-answer-requires
 side-answer-requires c κs = search needs

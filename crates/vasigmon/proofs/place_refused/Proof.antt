@@ -3,9 +3,6 @@ use Rattle.vasigmon.proofs.Cases.{place-refused-is}
 use borrow.Author.Needs.{needs}
 use Rattle.vasigmon.proofs.place_refused.Statement.{statement}
 use Rattle.vasigmon.proofs.place_refused.Tie as tie
-use Rattle.vasigmon.proofs.place_refused.Reads as reads
-use Rattle.vasigmon.proofs.place_refused.Lts as lts
-use Rattle.vasigmon.proofs.side_answer.Reads as side-answer-reads
 
 side-answer-requires : tie.Need-side-answer-requires
 side-answer-requires c κs = search needs

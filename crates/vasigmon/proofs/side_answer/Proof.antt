@@ -3,9 +3,6 @@ use Rattle.vasigmon.proofs.Cases.{side-absent, side-part, side-head}
 use borrow.Author.Needs.{needs}
 use Rattle.vasigmon.proofs.side_answer.Statement.{statement}
 use Rattle.vasigmon.proofs.side_answer.Tie as tie
-use Rattle.vasigmon.proofs.side_answer.Reads as reads
-use Rattle.vasigmon.proofs.side_answer.Lts as lts
-use Rattle.vasigmon.proofs.numbers.Reads as numbers-reads
 
 enum-told : tie.Need-enum-told
 enum-told c = search needs

@@ -3,10 +3,6 @@ use Rattle.vasigmon.proofs.Cases.{spec-accepted-is}
 use borrow.Author.Needs.{needs}
 use Rattle.vasigmon.proofs.spec_accepted.Statement.{statement}
 use Rattle.vasigmon.proofs.spec_accepted.Tie as tie
-use Rattle.vasigmon.proofs.spec_accepted.Reads as reads
-use Rattle.vasigmon.proofs.spec_accepted.Lts as lts
-use Rattle.vasigmon.proofs.mode_number.Reads as mode-number-reads
-use Rattle.vasigmon.proofs.side_answer.Reads as side-answer-reads
 
 mode-number-requires : tie.Need-mode-number-requires
 mode-number-requires c κs = search needs

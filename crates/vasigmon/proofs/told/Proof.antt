@@ -3,10 +3,6 @@ use Rattle.vasigmon.proofs.Cases.{told-is}
 use borrow.Author.Needs.{needs}
 use Rattle.vasigmon.proofs.told.Statement.{statement}
 use Rattle.vasigmon.proofs.told.Tie as tie
-use Rattle.vasigmon.proofs.told.Reads as reads
-use Rattle.vasigmon.proofs.told.Lts as lts
-use Rattle.vasigmon.proofs.flag.Reads as flag-reads
-use Rattle.vasigmon.proofs.side_answer.Reads as side-answer-reads
 
 flag-requires : tie.Need-flag-requires
 flag-requires c κs = search needs

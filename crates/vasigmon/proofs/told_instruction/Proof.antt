@@ -3,9 +3,6 @@ use Rattle.vasigmon.proofs.Cases.{told-fetch-only, told-fetch-exclude, 
 use borrow.Author.Needs.{needs}
 use Rattle.vasigmon.proofs.told_instruction.Statement.{statement}
 use Rattle.vasigmon.proofs.told_instruction.Tie as tie
-use Rattle.vasigmon.proofs.told_instruction.Reads as reads
-use Rattle.vasigmon.proofs.told_instruction.Lts as lts
-use Rattle.vasigmon.proofs.told.Reads as told-reads
 
 enum-known-i : tie.Need-enum-known-i
 enum-known-i c = search needs

@@ -3,11 +3,6 @@ use Rattle.vasigmon.proofs.Cases.{instruction-accepted, instruction-ref
 use borrow.Author.Needs.{needs}
 use Rattle.vasigmon.proofs.vasigmon_instruction.Statement.{statement}
 use Rattle.vasigmon.proofs.vasigmon_instruction.Tie as tie
-use Rattle.vasigmon.proofs.vasigmon_instruction.Reads as reads
-use Rattle.vasigmon.proofs.vasigmon_instruction.Lts as lts
-use Rattle.refspec.proofs.spec.instruction.Reads as instruction-reads
-use Rattle.vasigmon.proofs.told_instruction.Reads as told-instruction-reads
-use Rattle.vasigmon.proofs.told_refused.Reads as told-refused-reads
 
 instruction-requires : tie.Need-instruction-requires
 instruction-requires c κs = search needs

@@ -3,11 +3,6 @@ use Rattle.vasigmon.proofs.Cases.{parse-accepted, parse-refused}
 use borrow.Author.Needs.{needs}
 use Rattle.vasigmon.proofs.vasigmon_parse.Statement.{statement}
 use Rattle.vasigmon.proofs.vasigmon_parse.Tie as tie
-use Rattle.vasigmon.proofs.vasigmon_parse.Reads as reads
-use Rattle.vasigmon.proofs.vasigmon_parse.Lts as lts
-use Rattle.parse.proofs.parse.Reads as parse-reads
-use Rattle.vasigmon.proofs.spec_accepted.Reads as spec-accepted-reads
-use Rattle.vasigmon.proofs.spec_refused.Reads as spec-refused-reads
 
 parse-requires : tie.Need-parse-requires
 parse-requires c κs = search needs

@@ -3,11 +3,6 @@ use Rattle.vasigmon.proofs.Cases.{prefix-accepted, prefix-refused}
 use borrow.Author.Needs.{needs}
 use Rattle.vasigmon.proofs.vasigmon_prefix.Statement.{statement}
 use Rattle.vasigmon.proofs.vasigmon_prefix.Tie as tie
-use Rattle.vasigmon.proofs.vasigmon_prefix.Reads as reads
-use Rattle.vasigmon.proofs.vasigmon_prefix.Lts as lts
-use Rattle.refspec.proofs.spec.prefix.Reads as prefix-reads
-use Rattle.vasigmon.proofs.place.Reads as place-reads
-use Rattle.vasigmon.proofs.place_refused.Reads as place-refused-reads
 
 prefix-requires : tie.Need-prefix-requires
 prefix-requires c κs = search needs

@@ -4,9 +4,6 @@ use Rattle.refspec.specs.Instructions.{fetchPlaces}
 use borrow.Author.Needs.{needs}
 use Rattle.refspec.proofs.spec.fetch.Statement.{statement}
 use Rattle.refspec.proofs.spec.fetch.Tie as tie
-use Rattle.refspec.proofs.spec.fetch.Reads as reads
-use Rattle.refspec.proofs.spec.fetch.Lts as lts
-use Rattle.parse.proofs.types.is_present.Reads as is-present-reads
 
 is-present-requires : tie.Need-is-present-requires
 is-present-requires c κs = search needs

@@ -3,10 +3,6 @@ use Rattle.refspec.proofs.Answers.{instructed-to, instructed-no, instru
 use borrow.Author.Needs.{needs}
 use Rattle.refspec.proofs.spec.instruction.Statement.{statement}
 use Rattle.refspec.proofs.spec.instruction.Tie as tie
-use Rattle.refspec.proofs.spec.instruction.Reads as reads
-use Rattle.refspec.proofs.spec.instruction.Lts as lts
-use Rattle.parse.proofs.parse.Reads as parse-reads
-use Rattle.refspec.proofs.spec.instruction_of.Reads as instruction-of-reads
 
 parse-requires : tie.Need-parse-requires
 parse-requires c κs = search needs

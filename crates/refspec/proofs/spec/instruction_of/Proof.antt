@@ -5,12 +5,6 @@ use Rattle.refspec.specs.Instructions.{instructionPlaces}
 use borrow.Author.Needs.{needs}
 use Rattle.refspec.proofs.spec.instruction_of.Statement.{statement}
 use Rattle.refspec.proofs.spec.instruction_of.Tie as tie
-use Rattle.refspec.proofs.spec.instruction_of.Reads as reads
-use Rattle.refspec.proofs.spec.instruction_of.Lts as lts
-use Rattle.parse.proofs.types.is_negative.Reads as is-negative-reads
-use Rattle.refspec.proofs.spec.fetch.Reads as fetch-reads
-use Rattle.refspec.proofs.spec.is_force.Reads as is-force-reads
-use Rattle.refspec.proofs.spec.push.Reads as push-reads
 
 is-negative-requires : tie.Need-is-negative-requires
 is-negative-requires c κs = search needs

@@ -3,9 +3,6 @@ use Rattle.refspec.proofs.Fronts.{part-prefix-none, part-prefix-some}
 use borrow.Author.Needs.{needs}
 use Rattle.refspec.proofs.spec.part_prefix.Statement.{statement}
 use Rattle.refspec.proofs.spec.part_prefix.Tie as tie
-use Rattle.refspec.proofs.spec.part_prefix.Reads as reads
-use Rattle.refspec.proofs.spec.part_prefix.Lts as lts
-use Rattle.refspec.proofs.spec.prefix_length.Reads as prefix-length-reads
 
 add-end : tie.Need-add-end
 add-end c = search needs

@@ -4,10 +4,6 @@ use Rattle.refspec.proofs.Answers.{prefixed-to, prefixed-no, prefixed-m
 use borrow.Author.Needs.{needs}
 use Rattle.refspec.proofs.spec.prefix.Statement.{statement}
 use Rattle.refspec.proofs.spec.prefix.Tie as tie
-use Rattle.refspec.proofs.spec.prefix.Reads as reads
-use Rattle.refspec.proofs.spec.prefix.Lts as lts
-use Rattle.parse.proofs.parse.Reads as parse-reads
-use Rattle.refspec.proofs.spec.spec_prefix.Reads as spec-prefix-reads
 
 parse-requires : tie.Need-parse-requires
 parse-requires c κs = search needs

@@ -3,12 +3,6 @@ use Rattle.refspec.proofs.Fronts.{length-head, length-other, length-pla
 use borrow.Author.Needs.{needs}
 use Rattle.refspec.proofs.spec.prefix_length.Statement.{statement}
 use Rattle.refspec.proofs.spec.prefix_length.Tie as tie
-use Rattle.refspec.proofs.spec.prefix_length.Reads as reads
-use Rattle.refspec.proofs.spec.prefix_length.Lts as lts
-use Rattle.text.proofs.begins.Reads as begins-reads
-use Rattle.text.proofs.find.Reads as find-reads
-use Rattle.text.proofs.has_byte.Reads as has-byte-reads
-use Rattle.text.proofs.same.Reads as same-reads
 
 slice-aggregate-same : tie.Need-slice-aggregate-same
 slice-aggregate-same c = search needs

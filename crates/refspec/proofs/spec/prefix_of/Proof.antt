@@ -4,9 +4,6 @@ use Rattle.parse.proofs.Parts.{part-within}
 use borrow.Author.Needs.{needs}
 use Rattle.refspec.proofs.spec.prefix_of.Statement.{statement}
 use Rattle.refspec.proofs.spec.prefix_of.Tie as tie
-use Rattle.refspec.proofs.spec.prefix_of.Reads as reads
-use Rattle.refspec.proofs.spec.prefix_of.Lts as lts
-use Rattle.refspec.proofs.spec.part_prefix.Reads as part-prefix-reads
 
 enum-told : tie.Need-enum-told
 enum-told c = search needs

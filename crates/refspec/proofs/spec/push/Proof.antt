@@ -4,10 +4,6 @@ use Rattle.refspec.specs.Instructions.{pushPlaces}
 use borrow.Author.Needs.{needs}
 use Rattle.refspec.proofs.spec.push.Statement.{statement}
 use Rattle.refspec.proofs.spec.push.Tie as tie
-use Rattle.refspec.proofs.spec.push.Reads as reads
-use Rattle.refspec.proofs.spec.push.Lts as lts
-use Rattle.parse.proofs.types.is_present.Reads as is-present-reads
-use Rattle.refspec.proofs.spec.destination_or.Reads as destination-or-reads
 
 is-present-requires : tie.Need-is-present-requires
 is-present-requires c κs = search needs

@@ -4,9 +4,6 @@ use Rattle.refspec.specs.Prefixes.{remotePlace}
 use borrow.Author.Needs.{needs}
 use Rattle.refspec.proofs.spec.remote.Statement.{statement}
 use Rattle.refspec.proofs.spec.remote.Tie as tie
-use Rattle.refspec.proofs.spec.remote.Reads as reads
-use Rattle.refspec.proofs.spec.remote.Lts as lts
-use Rattle.parse.proofs.types.is_negative.Reads as is-negative-reads
 
 is-negative-requires : tie.Need-is-negative-requires
 is-negative-requires c κs = search needs

@@ -3,10 +3,6 @@ use Rattle.refspec.proofs.Fronts.{remote-within, prefix-of-remote}
 use borrow.Author.Needs.{needs}
 use Rattle.refspec.proofs.spec.spec_prefix.Statement.{statement}
 use Rattle.refspec.proofs.spec.spec_prefix.Tie as tie
-use Rattle.refspec.proofs.spec.spec_prefix.Reads as reads
-use Rattle.refspec.proofs.spec.spec_prefix.Lts as lts
-use Rattle.refspec.proofs.spec.prefix_of.Reads as prefix-of-reads
-use Rattle.refspec.proofs.spec.remote.Reads as remote-reads
 
 remote-requires : tie.Need-remote-requires
 remote-requires c κs = search needs

@@ -3,10 +3,6 @@ use Rattle.write.proofs.Texts.{pieces-fetch-only, pieces-fetch-exclude,
 use borrow.Author.Needs.{needs}
 use Rattle.write.proofs.canonical.pieces_of.Statement.{statement}
 use Rattle.write.proofs.canonical.pieces_of.Tie as tie
-use Rattle.write.proofs.canonical.pieces_of.Reads as reads
-use Rattle.write.proofs.canonical.pieces_of.Lts as lts
-use Rattle.write.proofs.canonical.one_sided.Reads as one-sided-reads
-use Rattle.write.proofs.canonical.two_sided.Reads as two-sided-reads
 
 enum-known-i : tie.Need-enum-known-i
 enum-known-i c = search needs

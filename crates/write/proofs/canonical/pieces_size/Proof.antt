@@ -3,11 +3,6 @@ use Rattle.write.proofs.Texts.{pieces-length}
 use borrow.Author.Needs.{needs}
 use Rattle.write.proofs.canonical.pieces_size.Statement.{statement}
 use Rattle.write.proofs.canonical.pieces_size.Tie as tie
-use Rattle.write.proofs.canonical.pieces_size.Reads as reads
-use Rattle.write.proofs.canonical.pieces_size.Lts as lts
-use Rattle.write.proofs.side.side_size.Reads as side-size-reads
-use Rattle.write.proofs.canonical.colon_size.Reads as colon-size-reads
-use Rattle.write.proofs.canonical.sign_size.Reads as sign-size-reads
 
 sign-size-requires : tie.Need-sign-size-requires
 sign-size-requires c κs = search needs

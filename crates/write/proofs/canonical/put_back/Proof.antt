@@ -3,10 +3,6 @@ use Rattle.text.proofs.Pairs.{pair-first, pair-second, pair-put, pair-end}
 use borrow.Author.Needs.{needs}
 use Rattle.write.proofs.canonical.put_back.Statement.{statement}
 use Rattle.write.proofs.canonical.put_back.Tie as tie
-use Rattle.write.proofs.canonical.put_back.Reads as reads
-use Rattle.write.proofs.canonical.put_back.Lts as lts
-use Rattle.write.proofs.side.put_side.Reads as put-side-reads
-use Rattle.write.proofs.canonical.put_colon.Reads as put-colon-reads
 
 put-colon-requires : tie.Need-put-colon-requires
 put-colon-requires c κs = search pair-first

@@ -3,9 +3,6 @@ use Rattle.write.proofs.Texts.{colon-none-put, colon-none-end, colon-ro
 use borrow.Author.Needs.{needs}
 use Rattle.write.proofs.canonical.put_colon.Statement.{statement}
 use Rattle.write.proofs.canonical.put_colon.Tie as tie
-use Rattle.write.proofs.canonical.put_colon.Reads as reads
-use Rattle.write.proofs.canonical.put_colon.Lts as lts
-use Rattle.text.proofs.put_byte.Reads as put-byte-reads
 
 put-byte-requires : tie.Need-put-byte-requires
 put-byte-requires c κs = search colon-room

@@ -3,10 +3,6 @@ use Rattle.text.proofs.Pairs.{pair-first, pair-second, pair-put, pair-end}
 use borrow.Author.Needs.{needs}
 use Rattle.write.proofs.canonical.put_front.Statement.{statement}
 use Rattle.write.proofs.canonical.put_front.Tie as tie
-use Rattle.write.proofs.canonical.put_front.Reads as reads
-use Rattle.write.proofs.canonical.put_front.Lts as lts
-use Rattle.write.proofs.side.put_side.Reads as put-side-reads
-use Rattle.write.proofs.canonical.put_sign.Reads as put-sign-reads
 
 put-sign-requires : tie.Need-put-sign-requires
 put-sign-requires c κs = search pair-first

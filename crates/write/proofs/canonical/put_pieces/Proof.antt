@@ -3,10 +3,6 @@ use Rattle.write.proofs.Texts.{front-room, back-room, all-written}
 use borrow.Author.Needs.{needs}
 use Rattle.write.proofs.canonical.put_pieces.Statement.{statement}
 use Rattle.write.proofs.canonical.put_pieces.Tie as tie
-use Rattle.write.proofs.canonical.put_pieces.Reads as reads
-use Rattle.write.proofs.canonical.put_pieces.Lts as lts
-use Rattle.write.proofs.canonical.put_back.Reads as put-back-reads
-use Rattle.write.proofs.canonical.put_front.Reads as put-front-reads
 
 put-front-requires : tie.Need-put-front-requires
 put-front-requires c κs = (search needs, search front-room)

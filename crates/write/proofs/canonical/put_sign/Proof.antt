@@ -3,9 +3,6 @@ use Rattle.write.proofs.Texts.{sign-none-put, sign-none-end, sign-room,
 use borrow.Author.Needs.{needs}
 use Rattle.write.proofs.canonical.put_sign.Statement.{statement}
 use Rattle.write.proofs.canonical.put_sign.Tie as tie
-use Rattle.write.proofs.canonical.put_sign.Reads as reads
-use Rattle.write.proofs.canonical.put_sign.Lts as lts
-use Rattle.text.proofs.put_byte.Reads as put-byte-reads
 
 returns : tie.Need-returns
 returns c = (search sign-none-put, search sign-none-end)

@@ -3,8 +3,6 @@ use Rattle.write.proofs.Texts.{sign-some}
 use borrow.Author.Needs.{needs}
 use Rattle.write.proofs.canonical.sign_size.Statement.{statement}
 use Rattle.write.proofs.canonical.sign_size.Tie as tie
-use Rattle.write.proofs.canonical.sign_size.Reads as reads
-use Rattle.write.proofs.canonical.sign_size.Lts as lts
 
 returns : tie.Need-returns
 returns c = search needs

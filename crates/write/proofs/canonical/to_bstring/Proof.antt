@@ -4,10 +4,6 @@ use Rattle.write.proofs.Texts.{bstring-accepted, bstring-refused}
 use borrow.Author.Needs.{needs}
 use Rattle.write.proofs.canonical.to_bstring.Statement.{statement}
 use Rattle.write.proofs.canonical.to_bstring.Tie as tie
-use Rattle.write.proofs.canonical.to_bstring.Reads as reads
-use Rattle.write.proofs.canonical.to_bstring.Lts as lts
-use Rattle.parse.proofs.parse.Reads as parse-reads
-use Rattle.write.proofs.canonical.write_to.Reads as write-to-reads
 
 parse-requires : tie.Need-parse-requires
 parse-requires c κs = search needs

@@ -2,8 +2,6 @@
 use Rattle.write.proofs.Texts.{two-forced, two-plain}
 use Rattle.write.proofs.canonical.two_sided.Statement.{statement}
 use Rattle.write.proofs.canonical.two_sided.Tie as tie
-use Rattle.write.proofs.canonical.two_sided.Reads as reads
-use Rattle.write.proofs.canonical.two_sided.Lts as lts
 
 returns : tie.Need-returns
 returns c = search two-forced

@@ -3,12 +3,6 @@ use Rattle.write.proofs.Texts.{pieces-within, canonical-short, canonica
 use borrow.Author.Needs.{needs}
 use Rattle.write.proofs.canonical.write_to.Statement.{statement}
 use Rattle.write.proofs.canonical.write_to.Tie as tie
-use Rattle.write.proofs.canonical.write_to.Reads as reads
-use Rattle.write.proofs.canonical.write_to.Lts as lts
-use Rattle.refspec.proofs.spec.instruction_of.Reads as instruction-of-reads
-use Rattle.write.proofs.canonical.pieces_of.Reads as pieces-of-reads
-use Rattle.write.proofs.canonical.pieces_size.Reads as pieces-size-reads
-use Rattle.write.proofs.canonical.put_pieces.Reads as put-pieces-reads
 
 instruction-of-requires : tie.Need-instruction-of-requires
 instruction-of-requires c κs = search needs

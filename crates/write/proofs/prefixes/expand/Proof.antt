@@ -1,15 +1,9 @@
 -- The yield of the side denotes the prefixes, which are measured before they are written. Assumes nothing.
 use Rattle.refspec.proofs.Fronts.{remote-within}
-use Rattle.write.proofs.Yields.{yield-within, expand-short, expand-room, expand-written}
+use Rattle.write.proofs.Lists.{yield-within, expand-short, expand-room, expand-written}
 use borrow.Author.Needs.{needs}
 use Rattle.write.proofs.prefixes.expand.Statement.{statement}
 use Rattle.write.proofs.prefixes.expand.Tie as tie
-use Rattle.write.proofs.prefixes.expand.Reads as reads
-use Rattle.write.proofs.prefixes.expand.Lts as lts
-use Rattle.write.proofs.prefixes.put_yield.Reads as put-yield-reads
-use Rattle.write.proofs.prefixes.yield_of.Reads as yield-of-reads
-use Rattle.write.proofs.prefixes.yield_size.Reads as yield-size-reads
-use Rattle.refspec.proofs.spec.remote.Reads as remote-reads
 
 remote-requires : tie.Need-remote-requires
 remote-requires c κs = search needs

@@ -1,13 +1,9 @@
 -- Each arm is one answer of reading. Assumes nothing.
 use Rattle.parse.proofs.Answers.{read-within, read-size}
-use Rattle.write.proofs.Yields.{expanded-accepted, expanded-refused}
+use Rattle.write.proofs.Lists.{expanded-accepted, expanded-refused}
 use borrow.Author.Needs.{needs}
 use Rattle.write.proofs.prefixes.expand_prefixes.Statement.{statement}
 use Rattle.write.proofs.prefixes.expand_prefixes.Tie as tie
-use Rattle.write.proofs.prefixes.expand_prefixes.Reads as reads
-use Rattle.write.proofs.prefixes.expand_prefixes.Lts as lts
-use Rattle.parse.proofs.parse.Reads as parse-reads
-use Rattle.write.proofs.prefixes.expand.Reads as expand-reads
 
 parse-requires : tie.Need-parse-requires
 parse-requires c κs = search needs

@@ -3,11 +3,6 @@ use Rattle.write.proofs.Yields.{refs-length, yield-deeper, yield-itself
 use borrow.Author.Needs.{needs}
 use Rattle.write.proofs.prefixes.name_yield.Statement.{statement}
 use Rattle.write.proofs.prefixes.name_yield.Tie as tie
-use Rattle.write.proofs.prefixes.name_yield.Reads as reads
-use Rattle.write.proofs.prefixes.name_yield.Lts as lts
-use Rattle.text.proofs.begins.Reads as begins-reads
-use Rattle.text.proofs.has_byte.Reads as has-byte-reads
-use Rattle.text.proofs.object_id.Reads as object-id-reads
 
 slice-aggregate-begins : tie.Need-slice-aggregate-begins
 slice-aggregate-begins c = search needs

@@ -3,11 +3,6 @@ use Rattle.write.proofs.Yields.{yield-prefix, yield-without}
 use borrow.Author.Needs.{needs}
 use Rattle.write.proofs.prefixes.part_yield.Statement.{statement}
 use Rattle.write.proofs.prefixes.part_yield.Tie as tie
-use Rattle.write.proofs.prefixes.part_yield.Reads as reads
-use Rattle.write.proofs.prefixes.part_yield.Lts as lts
-use Rattle.parse.proofs.types.is_present.Reads as is-present-reads
-use Rattle.write.proofs.prefixes.name_yield.Reads as name-yield-reads
-use Rattle.refspec.proofs.spec.prefix_of.Reads as prefix-of-reads
 
 prefix-of-requires : tie.Need-prefix-of-requires
 prefix-of-requires c κs = search needs

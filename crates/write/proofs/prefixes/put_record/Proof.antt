@@ -1,13 +1,8 @@
 -- The bytes are written right after their number. Assumes nothing.
-use Rattle.write.proofs.Yields.{record-number-room, record-side-room, record-put}
+use Rattle.write.proofs.Lists.{record-number-room, record-side-room, record-put}
 use borrow.Author.Needs.{needs}
 use Rattle.write.proofs.prefixes.put_record.Statement.{statement}
 use Rattle.write.proofs.prefixes.put_record.Tie as tie
-use Rattle.write.proofs.prefixes.put_record.Reads as reads
-use Rattle.write.proofs.prefixes.put_record.Lts as lts
-use Rattle.number.proofs.put.Reads as put-reads
-use Rattle.write.proofs.side.put_side.Reads as put-side-reads
-use Rattle.write.proofs.side.side_size.Reads as side-size-reads
 
 side-size-requires : tie.Need-side-size-requires
 side-size-requires c κs = search needs

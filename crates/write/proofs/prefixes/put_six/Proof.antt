@@ -1,11 +1,8 @@
 -- The part that is lent is the bytes from the place on. Assumes nothing.
-use Rattle.write.proofs.Yields.{six-fits, six-put}
+use Rattle.write.proofs.Lists.{six-fits, six-put}
 use borrow.Author.Needs.{needs}
 use Rattle.write.proofs.prefixes.put_six.Statement.{statement}
 use Rattle.write.proofs.prefixes.put_six.Tie as tie
-use Rattle.write.proofs.prefixes.put_six.Reads as reads
-use Rattle.write.proofs.prefixes.put_six.Lts as lts
-use Rattle.frames.proofs.put_candidates.Reads as put-candidates-reads
 
 add-end : tie.Need-add-end
 add-end c = search needs

@@ -1,12 +1,8 @@
 -- Each arm is one kind of yield. Assumes nothing.
-use Rattle.write.proofs.Yields.{one-within, six-within, put-nothing, one-room, put-one, six-room, put-six-is}
+use Rattle.write.proofs.Lists.{one-within, six-within, put-nothing, one-room, put-one, six-room, put-six-is}
 use borrow.Author.Needs.{needs}
 use Rattle.write.proofs.prefixes.put_yield.Statement.{statement}
 use Rattle.write.proofs.prefixes.put_yield.Tie as tie
-use Rattle.write.proofs.prefixes.put_yield.Reads as reads
-use Rattle.write.proofs.prefixes.put_yield.Lts as lts
-use Rattle.write.proofs.prefixes.put_record.Reads as put-record-reads
-use Rattle.write.proofs.prefixes.put_six.Reads as put-six-reads
 
 enum-told : tie.Need-enum-told
 enum-told c = search needs

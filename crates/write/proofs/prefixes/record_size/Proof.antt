@@ -5,10 +5,6 @@ use Rattle.number.proofs.Texts.{text-size}
 use borrow.Author.Needs.{needs}
 use Rattle.write.proofs.prefixes.record_size.Statement.{statement}
 use Rattle.write.proofs.prefixes.record_size.Tie as tie
-use Rattle.write.proofs.prefixes.record_size.Reads as reads
-use Rattle.write.proofs.prefixes.record_size.Lts as lts
-use Rattle.number.proofs.size.Reads as size-reads
-use Rattle.write.proofs.side.side_size.Reads as side-size-reads
 
 side-size-requires : tie.Need-side-size-requires
 side-size-requires c κs = search needs

@@ -1,11 +1,8 @@
 -- The part that is lent is the bytes from the place on. Assumes nothing.
-use Rattle.write.proofs.Yields.{six-length}
+use Rattle.write.proofs.Lists.{six-length}
 use borrow.Author.Needs.{needs}
 use Rattle.write.proofs.prefixes.six_size.Statement.{statement}
 use Rattle.write.proofs.prefixes.six_size.Tie as tie
-use Rattle.write.proofs.prefixes.six_size.Reads as reads
-use Rattle.write.proofs.prefixes.six_size.Lts as lts
-use Rattle.frames.proofs.candidates_size.Reads as candidates-size-reads
 
 add-end : tie.Need-add-end
 add-end c = search needs

@@ -4,9 +4,6 @@ use Rattle.write.proofs.Yields.{yield-part, yield-head}
 use borrow.Author.Needs.{needs}
 use Rattle.write.proofs.prefixes.yield_of.Statement.{statement}
 use Rattle.write.proofs.prefixes.yield_of.Tie as tie
-use Rattle.write.proofs.prefixes.yield_of.Reads as reads
-use Rattle.write.proofs.prefixes.yield_of.Lts as lts
-use Rattle.write.proofs.prefixes.part_yield.Reads as part-yield-reads
 
 enum-told : tie.Need-enum-told
 enum-told c = search needs

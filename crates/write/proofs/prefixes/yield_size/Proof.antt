@@ -1,12 +1,8 @@
 -- Each arm is one kind of yield. Assumes nothing.
-use Rattle.write.proofs.Yields.{size-nothing, one-within, size-one, six-within, size-six}
+use Rattle.write.proofs.Lists.{size-nothing, one-within, size-one, six-within, size-six}
 use borrow.Author.Needs.{needs}
 use Rattle.write.proofs.prefixes.yield_size.Statement.{statement}
 use Rattle.write.proofs.prefixes.yield_size.Tie as tie
-use Rattle.write.proofs.prefixes.yield_size.Reads as reads
-use Rattle.write.proofs.prefixes.yield_size.Lts as lts
-use Rattle.write.proofs.prefixes.record_size.Reads as record-size-reads
-use Rattle.write.proofs.prefixes.six_size.Reads as six-size-reads
 
 enum-told : tie.Need-enum-told
 enum-told c = search needs

@@ -3,9 +3,6 @@ use Rattle.write.proofs.Sides.{part-room, part-put, part-end}
 use borrow.Author.Needs.{needs}
 use Rattle.write.proofs.side.put_part.Statement.{statement}
 use Rattle.write.proofs.side.put_part.Tie as tie
-use Rattle.write.proofs.side.put_part.Reads as reads
-use Rattle.write.proofs.side.put_part.Lts as lts
-use Rattle.text.proofs.put.Reads as put-reads
 
 add-end : tie.Need-add-end
 add-end c = search needs

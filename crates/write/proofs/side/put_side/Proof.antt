@@ -4,10 +4,6 @@ use Rattle.write.proofs.Sides.{none-put, none-end, side-room, side-put,
 use borrow.Author.Needs.{needs}
 use Rattle.write.proofs.side.put_side.Statement.{statement}
 use Rattle.write.proofs.side.put_side.Tie as tie
-use Rattle.write.proofs.side.put_side.Reads as reads
-use Rattle.write.proofs.side.put_side.Lts as lts
-use Rattle.write.proofs.side.put_part.Reads as put-part-reads
-use Rattle.text.proofs.put.Reads as put-reads
 
 enum-told : tie.Need-enum-told
 enum-told c = search needs

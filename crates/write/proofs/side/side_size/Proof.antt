@@ -3,8 +3,6 @@ use Rattle.write.proofs.Sides.{size-part, size-part-most}
 use borrow.Author.Needs.{needs}
 use Rattle.write.proofs.side.side_size.Statement.{statement}
 use Rattle.write.proofs.side.side_size.Tie as tie
-use Rattle.write.proofs.side.side_size.Reads as reads
-use Rattle.write.proofs.side.side_size.Lts as lts
 
 enum-told : tie.Need-enum-told
 enum-told c = search needs
