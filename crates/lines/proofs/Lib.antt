@@ -1,0 +1,2 @@
+-- `Laws`: the branches of the questions about a line.
+pub mod Laws

@@ -1,0 +1,2 @@
+-- `Line`: what a line of text holds.
+pub mod Line

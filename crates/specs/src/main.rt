@@ -1,0 +1,66 @@
+// Reads specs as lines of text, `fetch SPEC` or `push SPEC`, and prints what each becomes. Blank lines and lines that begin with `#` are
+// passed over.
+ghost use Prim.Native.Nat.{_≤_};
+ghost use lib.ListN.{length};
+use libc::STDIN_FILENO;
+use lines::Line;
+use lines::classify;
+
+mod print;
+mod show;
+
+use print::say;
+use print::say_number;
+use show::show_spec;
+
+// Names a line and says what is wrong with it.
+fn complain(number: u64, what: &[u8]) {
+    say(b"line ");
+    say_number(number);
+    say(b": ");
+    say(what);
+    say(b"\n");
+}
+
+// Prints what a line becomes.
+fn show_line(number: u64, line: &[u8]) {
+    match classify(line) {
+        Line::Nothing => (),
+        Line::Fetch(start) => show_from(number, 0, line, start),
+        Line::Push(start) => show_from(number, 1, line, start),
+        Line::Unknown => complain(number, b"neither `fetch SPEC` nor `push SPEC`"),
+    }
+}
+
+// Prints what the spec that begins at a place of its line becomes.
+fn show_from(number: u64, op: u64, line: &[u8], start: usize) {
+    if start <= line.len() {
+        show_spec(number, op, &line[start..]);
+    }
+}
+
+// Prints what each line becomes.
+fn show_lines(s: &[u8])
+    requires { ⌜ length (now s) ≤ 65536 ⌝ }
+{
+    let mut at = 0;
+    let mut number: u64 = 1;
+    while at < s.len() {
+        let end = text::find_from(s, at, b'\n');
+        show_line(number, &s[at..end]);
+        at = end + 1;
+        number += 1;
+    }
+}
+
+fn main() {
+    let mut input = io::large_buffer();
+    let n = io::read_full(STDIN_FILENO, &mut input);
+    let mut more = [0u8; 1];
+    let beyond = io::read_full(STDIN_FILENO, &mut more);
+    if beyond != 0 {
+        say(b"the input is above 65,536 bytes\n");
+        return;
+    }
+    show_lines(&input[..n]);
+}
