@@ -334,6 +334,17 @@ mod tests {
         assert_eq!(&out, b":d##");
     }
 
+    /// Empty slices, whose pointers are not null and point at nothing.
+    #[test]
+    fn nothing_may_be_lent() {
+        assert_eq!(raw::parse(1, &[]).refusal, Refusal::EmptyPush.number());
+        let short = raw::to_bstring(0, &[], &mut []);
+        assert_eq!(short.refusal, Refusal::BufferTooShort.number());
+        assert!((4..=8).contains(&short.length), "HEAD has 4 bytes");
+        let none = raw::expand_prefixes(0, &[b'a'; 40], &mut []);
+        assert_eq!(none, raw::Written::default(), "an object id has no prefix");
+    }
+
     #[test]
     fn a_short_buffer_is_untouched_and_told_a_length() {
         let mut out = *b"#";

@@ -1,12 +1,13 @@
 //! The texts that the runs are made of: all short ones over some bytes, random
-//! ones grown from telling pieces, damaged copies of good ones, and long ones
-//! around the limit of 4,096 bytes. All are fixed by a seed and a number.
+//! ones grown from telling pieces, damaged copies of good ones, and long ones,
+//! among them those around the limit of 4,096 bytes. All are fixed by a seed and
+//! a number.
 
 mod random;
 mod specs;
 
 pub use random::Random;
-pub use specs::{around_the_limit, damaged, good, grown};
+pub use specs::{FAMILIES, around_the_limit, damaged, good, grown, of_length};
 
 /// The longest spec that is accepted.
 pub const SPEC_LIMIT: usize = 4096;

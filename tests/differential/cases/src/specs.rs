@@ -159,13 +159,17 @@ fn two_sides_alike(random: &mut Random) -> Vec<u8> {
     if random.once_in(2) { damaged(spec, random) } else { spec }
 }
 
-/// How many families `around_the_limit` has.
-const FAMILIES: u64 = 12;
+/// How many families of long specs there are.
+pub const FAMILIES: u64 = 12;
 
 /// A spec of 4,093 to 4,098 bytes. Numbers from 0 to 71 give each family at
 /// each length.
 pub fn around_the_limit(number: u64) -> Vec<u8> {
-    let length = SPEC_LIMIT - 3 + (number / FAMILIES % 6) as usize;
+    of_length(SPEC_LIMIT - 3 + (number / FAMILIES % 6) as usize, number)
+}
+
+/// A spec of that length, at least 32; the number picks its family.
+pub fn of_length(length: usize, number: u64) -> Vec<u8> {
     let between = |start: &[u8], fill: u8, end: &[u8]| {
         let fills = vec![fill; length - start.len() - end.len()];
         [start, &fills, end].concat()

@@ -4,7 +4,7 @@
 mod compare;
 mod ours;
 
-use cases::{Random, around_the_limit, grown, short_text, short_texts};
+use cases::{FAMILIES, Random, around_the_limit, grown, of_length, short_text, short_texts};
 use compare::{Comparison, Fault};
 use std::{
     process::ExitCode,
@@ -23,6 +23,9 @@ const TELLING: &[u8] = b"a*:+^/.@{~]H";
 
 /// More bytes, for all texts of up to four.
 const MORE: &[u8] = b"a*:+^/.@{~]H ?[\\0\x00\x1f\x7f\x80-l";
+
+/// Lengths of specs far above the limit.
+const FAR_ABOVE: [usize; 3] = [5_000, 65_536, 1_000_000];
 
 /// How many specs a thread takes at a time.
 const CHUNK: u64 = 1024;
@@ -58,7 +61,8 @@ fn options() -> Option<Options> {
 
 fn from_hex(digits: &str) -> Option<Vec<u8>> {
     let digits: Vec<u8> = digits.chars().map(|d| d.to_digit(16).map(|d| d as u8)).collect::<Option<_>>()?;
-    digits.len().is_multiple_of(2).then(|| digits.chunks(2).map(|pair| 16 * pair[0] + pair[1]).collect())
+    let pairs = digits.chunks_exact(2);
+    pairs.remainder().is_empty().then(|| pairs.map(|pair| 16 * pair[0] + pair[1]).collect())
 }
 
 fn main() -> ExitCode {
@@ -79,7 +83,11 @@ fn main() -> ExitCode {
         && run.specs("texts of up to 5 telling bytes", short_texts(TELLING, 5), |n| short_text(TELLING, n))
         && run.specs("texts of up to 4 of more bytes", short_texts(MORE, 4), |n| short_text(MORE, n))
         && run.specs("texts of up to 2 of all bytes", short_texts(&every, 2), |n| short_text(&every, n))
-        && run.specs("texts around 4,096 bytes", 72, around_the_limit)
+        && run.specs("texts of 100 to 140 bytes", 41 * FAMILIES, |n| {
+            of_length(100 + (n / FAMILIES) as usize, n)
+        })
+        && run.specs("texts around 4,096 bytes", 6 * FAMILIES, around_the_limit)
+        && run.specs("texts far above", 3 * FAMILIES, |n| of_length(FAR_ABOVE[(n / FAMILIES) as usize], n))
         && run.specs("grown texts", options.count.div_ceil(2), |n| grown(&mut Random::new(options.seed, n)))
         && run.seen.everything();
     if passed {

@@ -5,8 +5,14 @@
 use oracle::{Answer, Side};
 use vasigmon::raw::{self, Written};
 
+/// What stands before and after all that is lent: a byte that is read there tells,
+/// and one that is written there is seen.
+const AROUND: &[u8] = b"*:^+:*";
+
 /// The archive's answers, or its refusal; or a complaint.
 pub fn ask(op: u64, spec: &[u8], noise: &[u8]) -> Result<Result<Answer, u64>, String> {
+    let around = [AROUND, spec, AROUND].concat();
+    let spec = &around[AROUND.len()..][..spec.len()];
     let read = raw::parse(op, spec);
     let instruction = raw::instruction(op, spec);
     let prefix = raw::prefix(op, spec);
@@ -18,7 +24,7 @@ pub fn ask(op: u64, spec: &[u8], noise: &[u8]) -> Result<Result<Answer, u64>, St
         alike("parse", read, raw::Spec { refusal, ..Default::default() })?;
         alike("instruction", instruction, raw::Instruction { refusal, ..Default::default() })?;
         alike("prefix", prefix, raw::Prefix { refusal, ..Default::default() })?;
-        for length in [0, 1, spec.len() + 8] {
+        for length in [0, 1, noise.len().min(spec.len() + 8)] {
             refused("to_bstring", &text, &noise[..length], refusal)?;
             refused("expand_prefixes", &list, &noise[..length], refusal)?;
         }
@@ -53,9 +59,13 @@ fn alike<T: PartialEq + std::fmt::Debug>(what: &str, found: T, expected: T) -> R
 }
 
 /// Calls with a buffer of noise: what is answered, and the buffer after it.
-fn lend(call: &dyn Fn(&mut [u8]) -> Written, noise: &[u8]) -> (Written, Vec<u8>) {
-    let mut buffer = noise.to_vec();
-    (call(&mut buffer), buffer)
+fn lend(what: &str, call: &dyn Fn(&mut [u8]) -> Written, noise: &[u8]) -> Result<(Written, Vec<u8>), String> {
+    let mut around = [AROUND, noise, AROUND].concat();
+    let (start, end) = (AROUND.len(), AROUND.len() + noise.len());
+    let answer = call(&mut around[start..end]);
+    untouched(what, &around[..start], AROUND)?;
+    untouched(what, &around[end..], AROUND)?;
+    Ok((answer, around[start..end].to_vec()))
 }
 
 /// Complains unless a call is refused with this number alone, its buffer untouched.
@@ -65,7 +75,7 @@ fn refused(
     noise: &[u8],
     refusal: u64,
 ) -> Result<(), String> {
-    let (answer, buffer) = lend(call, noise);
+    let (answer, buffer) = lend(what, call, noise)?;
     alike(what, answer, Written { refusal, record: 0, length: 0 })?;
     untouched(what, &buffer, noise)
 }
@@ -78,7 +88,7 @@ fn untouched(what: &str, bytes: &[u8], noise: &[u8]) -> Result<(), String> {
 /// The bytes that a call writes, found with a buffer that is surely long enough.
 /// The same call with shorter and exact buffers must keep the rules of 17.
 fn written(what: &str, call: &dyn Fn(&mut [u8]) -> Written, noise: &[u8]) -> Result<Vec<u8>, String> {
-    let (answer, mut buffer) = lend(call, noise);
+    let (answer, mut buffer) = lend(what, call, noise)?;
     let need = answer.length as usize;
     if need > noise.len() {
         return Err(format!("{what} answers {answer:?} to a buffer of {} bytes", noise.len()));
@@ -97,7 +107,7 @@ fn written(what: &str, call: &dyn Fn(&mut [u8]) -> Written, noise: &[u8]) -> Res
         }
     }
     for length in long_enough {
-        let (again, bytes) = lend(call, &noise[..length]);
+        let (again, bytes) = lend(what, call, &noise[..length])?;
         alike(what, again, answer)?;
         if bytes[..need] != buffer {
             return Err(format!("{what} writes other bytes to a buffer of {length} bytes"));
@@ -115,7 +125,7 @@ fn short(
     noise: &[u8],
     need: usize,
 ) -> Result<usize, String> {
-    let (answer, buffer) = lend(call, noise);
+    let (answer, buffer) = lend(what, call, noise)?;
     alike(what, answer, Written { refusal: 17, record: 0, length: answer.length })?;
     let told = answer.length as usize;
     if told < need || told > 2 * need {

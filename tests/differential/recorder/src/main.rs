@@ -15,6 +15,9 @@ const GROWN: u64 = 900;
 
 const SEED: u64 = 1;
 
+/// The replay reads each record into one buffer of this length.
+const RECORD_LIMIT: usize = 65_536;
+
 /// Of the specs around the limit of 4,096 bytes, these are recorded, below it.
 const LONG: [u64; 5] = [24, 4, 17, 31, 8];
 
@@ -39,12 +42,15 @@ fn main() -> ExitCode {
     }
 }
 
-/// The records of all specs, for fetch and for push.
+/// The records of all specs, for fetch and for push, each after its length in four bytes, the lowest first.
 fn recorded() -> Vec<u8> {
     let mut out = Vec::new();
     for spec in specs() {
         for op in [0, 1] {
-            record(&mut out, op, &spec, oracle::ask(op.into(), &spec));
+            let record = record(op, &spec, oracle::ask(op.into(), &spec));
+            assert!(record.len() <= RECORD_LIMIT, "a record fits the replay's buffer");
+            out.extend((record.len() as u32).to_le_bytes());
+            out.extend(record);
         }
     }
     out
@@ -91,29 +97,30 @@ const NAMED: &[&[u8]] = &[
     b"b:0123456789abcdefABCDEF0123456789abcdef01",
 ];
 
-/// Appends one record.
-fn record(out: &mut Vec<u8>, op: u8, spec: &[u8], answer: Result<Answer, u64>) {
-    out.push(op);
-    text(out, spec);
+/// One record.
+fn record(op: u8, spec: &[u8], answer: Result<Answer, u64>) -> Vec<u8> {
+    let mut out = vec![op];
+    text(&mut out, spec);
     let Ok(answer) = answer else {
         out.push(0);
-        return;
+        return out;
     };
     out.extend([1, answer.kind as u8, answer.force as u8]);
-    text(out, &answer.text);
+    text(&mut out, &answer.text);
     match answer.prefix {
         Side { kind: 0, .. } => out.push(0),
         Side { kind: 1, start, length } => {
             out.push(1);
-            text(out, &spec[start as usize..][..length as usize]);
+            text(&mut out, &spec[start as usize..][..length as usize]);
         }
         _ => {
             out.push(1);
-            text(out, b"HEAD");
+            text(&mut out, b"HEAD");
         }
     }
     out.push(answer.prefixes.len() as u8);
-    answer.prefixes.iter().for_each(|prefix| text(out, prefix));
+    answer.prefixes.iter().for_each(|prefix| text(&mut out, prefix));
+    out
 }
 
 /// Appends a text: its length in two bytes, the lower first, then its bytes.
@@ -129,12 +136,9 @@ mod tests {
 
     #[test]
     fn a_record_of_each_kind() {
-        let mut out = Vec::new();
-        record(&mut out, 1, b"a:", oracle::ask(1, b"a:"));
-        assert_eq!(out, b"\x01\x02\x00a:\x00");
-        out.clear();
-        record(&mut out, 0, b"+:d", oracle::ask(0, b"+:d"));
-        assert_eq!(out, b"\x00\x03\x00+:d\x01\x02\x01\x07\x00+HEAD:d\x01\x04\x00HEAD\x01\x04\x00HEAD");
+        assert_eq!(record(1, b"a:", oracle::ask(1, b"a:")), b"\x01\x02\x00a:\x00");
+        let fetched = record(0, b"+:d", oracle::ask(0, b"+:d"));
+        assert_eq!(fetched, b"\x00\x03\x00+:d\x01\x02\x01\x07\x00+HEAD:d\x01\x04\x00HEAD\x01\x04\x00HEAD");
     }
 
     #[test]

@@ -1,0 +1,6 @@
+-- `Fields`: fields one after the other. `Lists`: the prefixes of a record beside a prefix list. `Buffers`: what a call wrote into its
+-- buffer. `Answers`: a whole answer, and a whole record.
+pub mod Fields
+pub mod Lists
+pub mod Buffers
+pub mod Answers
