@@ -36,7 +36,7 @@ fn frame_of(k: usize) -> Frame
 }
 
 // How many bytes candidate number k of a name has.
-pub fn candidate_size(k: usize, name: &[u8]) -> usize
+fn candidate_size(k: usize, name: &[u8]) -> usize
     requires { ⌜ (k < 6) × (length (now name) ≤ listBytes) ⌝ }
     ensures { λ r. ⌜ r ≡ length (candidate k (now (name .entry))) ⌝ }
 {
@@ -45,7 +45,7 @@ pub fn candidate_size(k: usize, name: &[u8]) -> usize
 }
 
 // Candidate number k of a name, written from `at` on; the place after it.
-pub fn put_candidate(out: &mut [u8], at: usize, k: usize, name: &[u8]) -> usize
+fn put_candidate(out: &mut [u8], at: usize, k: usize, name: &[u8]) -> usize
     requires { ⌜ (k < 6) × (at + length (candidate k (now name)) ≤ length (now out)) ⌝ }
     ensures { λ r. ⌜ (now (out .exit) ≡ splice (now (out .entry)) at (candidate k (now (name .entry)))) × (r ≡ at + length (candidate k (now (name .entry)))) ⌝ }
 {

@@ -6,7 +6,7 @@ ghost use Rattle.meaning.specs.Names.{partPasses, partsPass, noLastDot, notAt, 
 ghost use Rattle.name.specs.Rules.{nameByte, patternByte, stands, standAfter};
 
 // 4, 5 and 10: a byte that no name has.
-pub fn forbids(b: u8) -> bool
+fn forbids(b: u8) -> bool
     ensures { λ r. ⌜ r ≡ not (nameByte b) ⌝ }
 {
     match b {

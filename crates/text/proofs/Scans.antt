@@ -8,7 +8,7 @@ use native.Mathlib.Omega.{arith}
 use borrow.Author.Tests.{eq-eqb, ne-eqb, not-true, not-false, lt-ltb}
 use lib.Dec.{eqb, ltb, leb·suc-suc}
 use lib.ListN.{length, getD, drop, take}
-use Rattle.meaning.specs.Bytes.{Text, _or_, every, same, begins, holds, hasByte, count}
+use Rattle.meaning.specs.Bytes.{Text, _or_, every, same, begins, hasByte, count}
 use Rattle.text.specs.Place.{firstAt}
 use Rattle.text.proofs.Rests.{rest-cons, rest-end, rest-part}
 
@@ -31,25 +31,6 @@ module _ (p s : Text) (i : ℕ) (inv : begins (drop i p) (drop i s) ≡ begins p
 
   pub begins-done : length p ≤ i → true ≡ begins p s
   begins-done h = rw (rest-end p i h) at inv
-
--- a text of no bytes holds only the text of no bytes
-holds-empty : (p : Text) → same p [] ≡ eqb (length p) 0
-holds-empty [] = refl
-holds-empty (a ∷ p) = sym (ne-eqb (suc (length p)) 0 (λ e. omega arith))
-
-module _ (p s : Text) (i : ℕ) (inv : holds p (drop i s) ≡ holds p s) where
-  -- what a look at the part from i says of the rest from i
-  at-part : (r : Bool) → i < length s → r ≡ begins p (take (length s - i) (drop i s)) → begins p (getD s i 0 ∷ drop (i + 1) s) ≡ r
-  at-part r h e = sym (rw (rest-part s i, rest-cons s i h) at e)
-
-  pub holds-here : (r : Bool) → i < length s → r ≡ begins p (take (length s - i) (drop i s)) → r ≡ true → true ≡ holds p s
-  holds-here r h e t = rw (rest-cons s i h, at-part r h e ∙ t) at inv
-
-  pub holds-more : (r : Bool) → i < length s → r ≡ begins p (take (length s - i) (drop i s)) → r ≡ false → holds p (drop (i + 1) s) ≡ holds p s
-  holds-more r h e f = rw (rest-cons s i h, at-part r h e ∙ f) at inv
-
-  pub holds-none : length s ≤ i → eqb (length p) 0 ≡ holds p s
-  holds-none h = sym (holds-empty p) ∙ rw (rest-end s i h) at inv
 
 module _ (test : ℕ → Bool) (s : Text) (i : ℕ) (inv : every test (drop i s) ≡ every test s) where
   pub every-fails : (r : Bool) → i < length s → r ≡ test (getD s i 0) → not r ≡ true → false ≡ every test s

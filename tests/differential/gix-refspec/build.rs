@@ -1,7 +1,7 @@
-//! Finds the source of gix-refspec, in the folder that GIX_REFSPEC_SRC names or
-//! in shared/docs/src/src beside the repository's top folder, checks that its
-//! files are the ones of SHA256SUMS, and copies them to ../target/gix-refspec,
-//! from where Cargo compiles them. A copy and not a link, so that no tool that
+//! Finds the source of gix-refspec, in the folder that GIX_REFSPEC_SRC names (the
+//! crate's, or its src) or in shared/docs/src beside the repository's top folder,
+//! checks that its files are the ones of SHA256SUMS, and copies them to
+//! ../target/gix-refspec, from where Cargo compiles them. A copy and not a link, so that no tool that
 //! walks this workspace (as `cargo fmt` does) can reach the originals.
 
 use std::{
@@ -23,10 +23,11 @@ fn main() {
 fn provide() -> Result<(), Box<dyn Error>> {
     let here = Path::new(env!("CARGO_MANIFEST_DIR"));
     let sums = here.join("SHA256SUMS");
-    let from = match env::var_os("GIX_REFSPEC_SRC") {
+    let named = match env::var_os("GIX_REFSPEC_SRC") {
         Some(folder) => PathBuf::from(folder),
-        None => here.join("../../../../shared/docs/src/src"),
+        None => here.join("../../../../shared/docs/src"),
     };
+    let from = if named.join("src/lib.rs").is_file() { named.join("src") } else { named };
     if !from.join("lib.rs").is_file() {
         return Err(
             format!("the source of gix-refspec is not in {}: set GIX_REFSPEC_SRC", from.display()).into()
