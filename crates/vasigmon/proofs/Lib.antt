@@ -1,2 +1,2 @@
--- `Cases`: the arms of each `match`, and the fields of each answer.
+-- `Cases`: the numbers of an answer are those of what it equals.
 pub mod Cases

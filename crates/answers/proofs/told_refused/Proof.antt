@@ -1,8 +1,8 @@
 -- Each field is the definition's. Assumes nothing.
-use Rattle.vasigmon.proofs.Cases.{told-refused-is}
+use Rattle.answers.proofs.Cases.{told-refused-is}
 use borrow.Author.Needs.{needs}
-use Rattle.vasigmon.proofs.told_refused.Statement.{statement}
-use Rattle.vasigmon.proofs.told_refused.Tie as tie
+use Rattle.answers.proofs.told_refused.Statement.{statement}
+use Rattle.answers.proofs.told_refused.Tie as tie
 
 side-answer-requires : tie.Need-side-answer-requires
 side-answer-requires c κs = search needs

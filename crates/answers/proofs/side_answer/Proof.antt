@@ -1,8 +1,8 @@
 -- Each arm is one kind of side. Assumes nothing.
-use Rattle.vasigmon.proofs.Cases.{side-absent, side-part, side-head}
+use Rattle.answers.proofs.Cases.{side-absent, side-part, side-head}
 use borrow.Author.Needs.{needs}
-use Rattle.vasigmon.proofs.side_answer.Statement.{statement}
-use Rattle.vasigmon.proofs.side_answer.Tie as tie
+use Rattle.answers.proofs.side_answer.Statement.{statement}
+use Rattle.answers.proofs.side_answer.Tie as tie
 
 enum-told : tie.Need-enum-told
 enum-told c = search needs

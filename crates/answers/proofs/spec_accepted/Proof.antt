@@ -1,8 +1,8 @@
 -- Each field is the definition's. Assumes nothing.
-use Rattle.vasigmon.proofs.Cases.{spec-accepted-is}
+use Rattle.answers.proofs.Cases.{spec-accepted-is}
 use borrow.Author.Needs.{needs}
-use Rattle.vasigmon.proofs.spec_accepted.Statement.{statement}
-use Rattle.vasigmon.proofs.spec_accepted.Tie as tie
+use Rattle.answers.proofs.spec_accepted.Statement.{statement}
+use Rattle.answers.proofs.spec_accepted.Tie as tie
 
 mode-number-requires : tie.Need-mode-number-requires
 mode-number-requires c κs = search needs

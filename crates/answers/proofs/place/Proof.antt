@@ -1,8 +1,8 @@
 -- Each field is the definition's. Assumes nothing.
-use Rattle.vasigmon.proofs.Cases.{place-is}
+use Rattle.answers.proofs.Cases.{place-is}
 use borrow.Author.Needs.{needs}
-use Rattle.vasigmon.proofs.place.Statement.{statement}
-use Rattle.vasigmon.proofs.place.Tie as tie
+use Rattle.answers.proofs.place.Statement.{statement}
+use Rattle.answers.proofs.place.Tie as tie
 
 side-answer-requires : tie.Need-side-answer-requires
 side-answer-requires c κs = search needs

@@ -1,8 +1,8 @@
 -- Each field is the definition's. Assumes nothing.
-use Rattle.vasigmon.proofs.Cases.{told-is}
+use Rattle.answers.proofs.Cases.{told-is}
 use borrow.Author.Needs.{needs}
-use Rattle.vasigmon.proofs.told.Statement.{statement}
-use Rattle.vasigmon.proofs.told.Tie as tie
+use Rattle.answers.proofs.told.Statement.{statement}
+use Rattle.answers.proofs.told.Tie as tie
 
 flag-requires : tie.Need-flag-requires
 flag-requires c κs = search needs

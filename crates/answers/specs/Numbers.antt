@@ -14,10 +14,10 @@ use Rattle.refspec.specs.declared.spec.Instructed.{Instructed}
 use Rattle.refspec.specs.declared.spec.Instructed.the-variants as instructing
 use Rattle.refspec.specs.declared.spec.Prefixed.{Prefixed}
 use Rattle.refspec.specs.declared.spec.Prefixed.the-variants as prefixing
-use Rattle.vasigmon.specs.declared.SideAnswer.{SideAnswer}
-use Rattle.vasigmon.specs.declared.SpecAnswer.{SpecAnswer}
-use Rattle.vasigmon.specs.declared.InstructionAnswer.{InstructionAnswer}
-use Rattle.vasigmon.specs.declared.PrefixAnswer.{PrefixAnswer}
+use Rattle.answers.specs.declared.SideAnswer.{SideAnswer}
+use Rattle.answers.specs.declared.SpecAnswer.{SpecAnswer}
+use Rattle.answers.specs.declared.InstructionAnswer.{InstructionAnswer}
+use Rattle.answers.specs.declared.PrefixAnswer.{PrefixAnswer}
 
 -- the number of a mode: 0 normal, 1 force, 2 negative
 abbrev pub modeNumber : Mode → ℕ

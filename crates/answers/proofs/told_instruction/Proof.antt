@@ -1,8 +1,8 @@
 -- Each arm is one instruction. Assumes nothing.
-use Rattle.vasigmon.proofs.Cases.{told-fetch-only, told-fetch-exclude, told-update, told-all, told-delete, told-matching, told-push-exclude}
+use Rattle.answers.proofs.Cases.{told-fetch-only, told-fetch-exclude, told-update, told-all, told-delete, told-matching, told-push-exclude}
 use borrow.Author.Needs.{needs}
-use Rattle.vasigmon.proofs.told_instruction.Statement.{statement}
-use Rattle.vasigmon.proofs.told_instruction.Tie as tie
+use Rattle.answers.proofs.told_instruction.Statement.{statement}
+use Rattle.answers.proofs.told_instruction.Tie as tie
 
 enum-known-i : tie.Need-enum-known-i
 enum-known-i c = search needs
