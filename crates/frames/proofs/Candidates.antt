@@ -29,12 +29,12 @@ six P a b c d e f (suc (suc (suc (suc (suc zero))))) h = f
 six P a b c d e f (suc (suc (suc (suc (suc (suc k)))))) h = absurd (omega arith)
 
 -- a candidate is the name in the frame of its number
-candidate-framed : (t : Text) (k : ℕ) → k < 6 → candidate k t ≡ frameAt k .leading ++ (t ++ frameAt k .trailing)
+pub candidate-framed : (t : Text) (k : ℕ) → k < 6 → candidate k t ≡ frameAt k .leading ++ (t ++ frameAt k .trailing)
 unfolding candidate
 candidate-framed t = six (λ (k : ℕ). getD (candidates t) k [] ≡ framed t (frameAt k)) refl refl refl refl refl refl
 
 -- the candidates from number k on are that one and those after it
-candidates-next : (t : Text) (k : ℕ) → k < 6 → drop k (candidates t) ≡ candidate k t ∷ drop (k + 1) (candidates t)
+pub candidates-next : (t : Text) (k : ℕ) → k < 6 → drop k (candidates t) ≡ candidate k t ∷ drop (k + 1) (candidates t)
 unfolding candidate
 candidates-next t = six (λ (k : ℕ). drop k (candidates t) ≡ getD (candidates t) k [] ∷ drop (k + 1) (candidates t)) refl refl refl refl refl refl
 
@@ -51,7 +51,7 @@ candidate-length : (t : Text) (k : ℕ) → k < 6 → length (candidate k t) ≡
 candidate-length t k h = rw (candidate-framed t k h, length-append (frameAt k .leading) (t ++ frameAt k .trailing), length-append t (frameAt k .trailing)) (omega arith)
 
 -- eighteen more than the name at most
-candidate-short : (t : Text) (k : ℕ) → k < 6 → length (candidate k t) ≤ length t + 18
+pub candidate-short : (t : Text) (k : ℕ) → k < 6 → length (candidate k t) ≤ length t + 18
 candidate-short t k h = omega (arith, candidate-length t k h, leading-short k h, trailing-short k h)
 
 -- the records from number k on are that one and those after it
@@ -137,7 +137,7 @@ pub candidate-number : (t : Text) (k : ℕ) → k < 6 → length t ≤ listBytes
 candidate-number t k h l n e = omega (arith, candidate-short t k h)
 
 -- a record has at most twenty-one bytes more than the name
-record-short : (t : Text) (k : ℕ) → k < 6 → length (textBytes (candidate k t)) ≤ length t + 21
+pub record-short : (t : Text) (k : ℕ) → k < 6 → length (textBytes (candidate k t)) ≤ length t + 21
 record-short t k h = omega (arith, text-size (candidate k t) (length (candidate k t)) refl (length (numberBytes (length (candidate k t)))) refl, bytes-few (length (candidate k t)), candidate-short t k h)
 
 -- so a machine's number holds its size, however its number is written

@@ -2,6 +2,7 @@
 ghost use mathlib.Core.Path.{_≡_};
 ghost use Prim.Native.Nat.{_+_, _<_, _≤_};
 ghost use lib.ListN.{length};
+ghost use Rattle.meaning.specs.Bytes.{any, same};
 ghost use Rattle.meaning.specs.Limits.{listBytes};
 ghost use Rattle.meaning.specs.Number.{textBytes, recordBytes};
 ghost use Rattle.meaning.specs.Prefix.{candidates};
@@ -45,7 +46,7 @@ fn candidate_size(k: usize, name: &[u8]) -> usize
 }
 
 // Candidate number k of a name, written from `at` on; the place after it.
-fn put_candidate(out: &mut [u8], at: usize, k: usize, name: &[u8]) -> usize
+pub fn put_candidate(out: &mut [u8], at: usize, k: usize, name: &[u8]) -> usize
     requires { ⌜ (k < 6) × (at + length (candidate k (now name)) ≤ length (now out)) ⌝ }
     ensures { λ r. ⌜ (now (out .exit) ≡ splice (now (out .entry)) at (candidate k (now (name .entry)))) × (r ≡ at + length (candidate k (now (name .entry)))) ⌝ }
 {
@@ -60,7 +61,7 @@ fn put_candidate(out: &mut [u8], at: usize, k: usize, name: &[u8]) -> usize
 }
 
 // How many bytes candidate number k has as a record of a prefix list.
-fn record_size(k: usize, name: &[u8]) -> usize
+pub fn record_size(k: usize, name: &[u8]) -> usize
     requires { ⌜ (k < 6) × (length (now name) ≤ listBytes) ⌝ }
     ensures { λ r. ⌜ r ≡ length (textBytes (candidate k (now (name .entry)))) ⌝ }
 {
@@ -69,7 +70,7 @@ fn record_size(k: usize, name: &[u8]) -> usize
 }
 
 // Candidate number k as a record of a prefix list, written from `at` on; the place after it.
-fn put_record(out: &mut [u8], at: usize, k: usize, name: &[u8]) -> usize
+pub fn put_record(out: &mut [u8], at: usize, k: usize, name: &[u8]) -> usize
     requires { ⌜ (k < 6) × (length (now name) ≤ listBytes) × (at + length (textBytes (candidate k (now name))) ≤ length (now out)) ⌝ }
     ensures { λ r. ⌜ (now (out .exit) ≡ splice (now (out .entry)) at (textBytes (candidate k (now (name .entry))))) × (r ≡ at + length (textBytes (candidate k (now (name .entry))))) ⌝ }
 {
@@ -104,4 +105,38 @@ pub fn put_candidates(out: &mut [u8], at: usize, name: &[u8]) -> usize
         k += 1;
     }
     i
+}
+
+// A name is candidate number k of a partial name t.
+pub fn is_candidate(k: usize, t: &[u8], name: &[u8]) -> bool
+    requires { ⌜ k < 6 ⌝ }
+    ensures { λ r. ⌜ r ≡ same (now (name .entry)) (candidate k (now (t .entry))) ⌝ }
+{
+    let f = frame_of(k);
+    let leading = f.0;
+    let n = f.1;
+    if !text::begins(name, &leading[..n]) {
+        return false;
+    }
+    let rest = &name[n..];
+    if !text::begins(rest, t) {
+        return false;
+    }
+    let trailing = HEAD;
+    let m = f.2;
+    text::same(&rest[t.len()..], &trailing[..m])
+}
+
+// A name is a candidate of a partial name t.
+pub fn any_candidate(t: &[u8], name: &[u8]) -> bool
+    ensures { λ r. ⌜ r ≡ any (same (now (name .entry))) (candidates (now (t .entry))) ⌝ }
+{
+    let mut k = 0;
+    while k < FRAMES {
+        if is_candidate(k, t, name) {
+            return true;
+        }
+        k += 1;
+    }
+    false
 }

@@ -27,7 +27,7 @@ use Rattle.promises.proofs.Listings.{endsIn, from-group, forward-made, 
 -- the sides of an accepted spec are short
 
 -- a text that may be absent has at most 4,096 bytes
-abbrev Short : Option Text → Type 0
+abbrev pub Short : Option Text → Type 0
 Short o = (t : Text) → o ≡ some t → length t ≤ 4096
 
 -- a source, of a side that is short
@@ -171,7 +171,7 @@ back-length (literal s) (pattern a b) name n h e k = absurd (let z : _≡_ {A = 
 back-length (pattern a b) (literal t) name n h e k = absurd (let z : _≡_ {A = ℕ} 0 1 = cc in omega arith)
 
 -- a name mapped back
-reverse-length : (s : Spec) (name n : Text) → Short (s .source) → reverse s name ≡ some n → length name ≤ 4096 → length n ≤ 8192
+pub reverse-length : (s : Spec) (name n : Text) → Short (s .source) → reverse s name ≡ some n → length name ≤ 4096 → length n ≤ 8192
 unfolding reverse
 reverse-length s name n h e k = go (s .source) (s .destination) h e
   where
@@ -183,7 +183,7 @@ reverse-length s name n h e k = go (s .source) (s .destination) h e
 -- every row fits
 
 module _ (op : ℕ) (specs items : Text) (group : List Spec) (names : List Text) (e : readSpecs op specs ≡ accepted group) (f : readItems items ≡ accepted names) where
-  sides-short : (s : Spec) → In s group → Short (s .source) × Short (s .destination)
+  pub sides-short : (s : Spec) → In s group → Short (s .source) × Short (s .destination)
   sides-short s m = let t = group-texts op specs group e s m in spec-short op (t .0) s (t .1)
 
   -- a row of a name, forward

@@ -133,7 +133,7 @@ module _ {B : Type 0} (one : ℕ → Reader B) (R : Text → B → Type 0) (read
       go false p = absurd (let z : _≡_ {A = ℕ} 0 1 = cc in omega arith)
 
 -- an item is its text
-item-reads : (i : ℕ) (s : Text) (b : Text) (rest : Text) → itemRecord i s ≡ took b rest → (t : Text) × (readText s ≡ took t rest) × (t ≡ b)
+pub item-reads : (i : ℕ) (s : Text) (b : Text) (rest : Text) → itemRecord i s ≡ took b rest → (t : Text) × (readText s ≡ took t rest) × (t ≡ b)
 unfolding itemRecord
 item-reads i s b rest e =
     let p : stepThen (readText s) (λ t. need 15 (leb (length t) 4096) (give t)) ≡ took b rest = rw (need-yes 14 (ltb i 1024) (readText >>= λ t. need 15 (leb (length t) 4096) (give t)) s e) at e in
@@ -145,7 +145,7 @@ item-reads i s b rest e =
     (q .0, q .2 ∙ ap (λ (x : Text). took (q .0) x) v, u)
 
 -- a spec is read from its text
-spec-reads : (op i : ℕ) (s : Text) (b : Spec) (rest : Text) → specRecord op i s ≡ took b rest → (t : Text) × (readText s ≡ took t rest) × (readSpec op t ≡ accepted b)
+pub spec-reads : (op i : ℕ) (s : Text) (b : Spec) (rest : Text) → specRecord op i s ≡ took b rest → (t : Text) × (readText s ≡ took t rest) × (readSpec op t ≡ accepted b)
 unfolding specRecord
 spec-reads op i s b rest e =
     let p : stepThen (readText s) (λ t. answered (readSpec op t)) ≡ took b rest = rw (need-yes 14 (ltb i 256) (readText >>= λ t. answered (readSpec op t)) s e) at e in
@@ -188,12 +188,12 @@ source-is op m (x ∷ l) d h e = go (same (x ∷ l) (bytes "@")) e
     go false p = cc
 
 -- an object id has forty bytes
-object-length : (d : Text) → objectId d ≡ true → length d ≡ 40
+pub object-length : (d : Text) → objectId d ≡ true → length d ≡ 40
 unfolding objectId
 object-length d e = eqb-true (length d) 40 (and-left (eqb (length d) 40) (every hexDigit d) e)
 
 -- the digits of an object source begin its text after the sign
-digits-begin : (op : ℕ) (t : Text) (s : Spec) (d : Text) → readSpec op t ≡ accepted s → objectSource s ≡ some d → (rest : Text) × (unsigned t ≡ d ++ rest)
+pub digits-begin : (op : ℕ) (t : Text) (s : Spec) (d : Text) → readSpec op t ≡ accepted s → objectSource s ≡ some d → (rest : Text) × (unsigned t ≡ d ++ rest)
 unfolding specOf specFrom
 digits-begin op t s d e o =
     let r = read-passed op t s e in
@@ -213,7 +213,7 @@ digits-in d rest after h (x ∷ t) e = unsigned-append x t after ∙ ap (λ (k :
 accepted-is : {A : Type 0} {a b : A} → accepted a ≡ accepted b → a ≡ b
 accepted-is e = cc
 
-refused-not : {A : Type 0} {n : ℕ} {r : Option ℕ} {a : A} → refused n r ≡ accepted a → ⊥
+pub refused-not : {A : Type 0} {n : ℕ} {r : Option ℕ} {a : A} → refused n r ≡ accepted a → ⊥
 refused-not e = let z : _≡_ {A = ℕ} 0 1 = cc in omega arith
 
 module _ (specs items : Text) (p : Part) where

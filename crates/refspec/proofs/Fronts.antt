@@ -31,7 +31,7 @@ lt-ne h e = omega arith
 -- ---- the text before the star
 
 -- it has as many bytes as the place of the first star says
-before-star-length : (t : Text) → length (beforeStar t) ≡ firstAt star t
+pub before-star-length : (t : Text) → length (beforeStar t) ≡ firstAt star t
 before-star-length [] = refl
 before-star-length (x ∷ t) = go (eqb star x) (before-star-length t)
   where
@@ -40,7 +40,7 @@ before-star-length (x ∷ t) = go (eqb star x) (before-star-length t)
     go false e = ap suc e
 
 -- and is what the text begins with
-before-star-front : (t : Text) → take (length (beforeStar t)) t ≡ beforeStar t
+pub before-star-front : (t : Text) → take (length (beforeStar t)) t ≡ beforeStar t
 before-star-front [] = refl
 before-star-front (x ∷ t) = go (eqb star x) (before-star-front t)
   where
@@ -58,7 +58,7 @@ first-within b (x ∷ t) = go (eqb b x) (first-within b t)
     go false e = omega arith
 
 -- a text has no star if the first one stands at its end
-no-star : (t : Text) → firstAt star t ≡ length t → hasByte star t ≡ false
+pub no-star : (t : Text) → firstAt star t ≡ length t → hasByte star t ≡ false
 no-star [] e = refl
 no-star (x ∷ t) e = go (eqb star x) refl e (no-star t)
   where
@@ -67,7 +67,7 @@ no-star (x ∷ t) e = go (eqb star x) refl e (no-star t)
     go false h z f = rw h (f (omega arith))
 
 -- and has one if it stands before that
-a-star : (t : Text) → (firstAt star t ≡ length t → ⊥) → hasByte star t ≡ true
+pub a-star : (t : Text) → (firstAt star t ≡ length t → ⊥) → hasByte star t ≡ true
 a-star [] n = absurd (n refl)
 a-star (x ∷ t) n = go (eqb star x) refl n (a-star t)
   where

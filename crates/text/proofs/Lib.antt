@@ -1,6 +1,6 @@
 -- `Rests`: what is left of a text from a place on. `Scans`: one step of each look through a text. `Sames`: texts of one length.
 -- `Lasts`: the last place of a byte. `Sides`: the two sides of a spec by the place of its last colon. `Splices`: what is written after what was written.
--- `Writing`: a text that is written piece by piece. `Rows`: rules asked one after the other. `Classes`: a `match` on a number.
+-- `Writing`: a text that is written piece by piece. `Rows`: rules asked one after the other. `Classes`: a `match` on a number. `Lowers`: lower case.
 pub mod Rests
 pub mod Scans
 pub mod Sames
@@ -8,6 +8,8 @@ pub mod Lasts
 pub mod Sides
 pub mod Splices
 pub mod Pairs
+pub mod Threes
 pub mod Rows
 pub mod Classes
 pub mod Writing
+pub mod Lowers

@@ -1,9 +1,9 @@
 -- A yield as a prefix list: its length, writing it, and the answer that tells of it. Assumes nothing.
-use Prim.Native.Nat.{ℕ, _+_, _-_, _≤_, _<_}
+use Prim.Native.Nat.{ℕ, _+_, _-_, _≤_}
 use native.Mathlib.Omega.{arith}
-use mathlib.Core.Path.{_≡_, refl, sym, ap, _∙_}
+use mathlib.Core.Path.{_≡_, sym, ap, _∙_}
 use mathlib.Core.List.{[], _∷_, append-nil}
-use mathlib.Core.Option.{none, some}
+use mathlib.Core.Option.{some}
 use lib.ListN.{length, take, drop}
 use Rattle.meaning.specs.Bytes.{Text, _and_}
 use Rattle.meaning.specs.Spec.{accepted}
@@ -11,9 +11,8 @@ use Rattle.meaning.specs.Number.{numberBytes, textBytes, recordBytes}
 use Rattle.meaning.specs.Prefix.{candidates, yielded, expandPrefixes}
 use Rattle.meaning.specs.Buffers.{MeetsOne}
 use Rattle.meaning.specs.Entries.{expanded}
-use Rattle.promises.proofs.Buffers.{meets-refused, meets-short, meets-written}
 use Rattle.text.specs.Splice.{splice}
-use Rattle.text.proofs.Splices.{splice-none, splice-start}
+use Rattle.text.proofs.Splices.{splice-none}
 use Rattle.number.proofs.Texts.{number-room, text-room, text-put}
 use Rattle.parse.specs.declared.types.Side.{Side}
 use Rattle.parse.specs.declared.types.RefSpec.{RefSpec}
@@ -21,13 +20,13 @@ use Rattle.parse.specs.declared.Parsed.{Parsed}
 use Rattle.parse.specs.declared.Parsed.the-variants.{Spec, Refused}
 use Rattle.parse.specs.Places.{partAt, sideMeant, Within, SidesWithin, specMeant, parsed}
 use Rattle.parse.proofs.Parts.{part-of}
-use Rattle.parse.proofs.Answers.{read-accepted, read-refused}
 use Rattle.write.specs.declared.prefixes.Yield.{Yield}
 use Rattle.write.specs.declared.prefixes.Yield.the-variants.{Nothing, One, Six}
 use Rattle.refspec.specs.Instructions.{sideText}
 use Rattle.refspec.specs.Prefixes.{remotePlace}
 use Rattle.write.specs.Yields.{yieldPlace, yieldMeant, YieldWithin}
 use Rattle.refspec.proofs.Fronts.{remote-meant, remote-within}
+use Rattle.write.proofs.Meets.{spec-accepted, spec-refused}
 use Rattle.write.proofs.Yields.{yield-meant, yield-in}
 
 -- ---- how many bytes a yield takes
@@ -133,34 +132,23 @@ module _ (op : ℕ) (t : Text) (r : RefSpec) (side : Side) (y : Yield) (es : sid
   yield-within = rw ey (yield-in t side side-in)
 
   -- which denotes the spec's prefixes
-  expand-is : yieldMeant t y ≡ expandPrefixes op (specMeant t r)
+  pub expand-is : yieldMeant t y ≡ expandPrefixes op (specMeant t r)
   unfolding expandPrefixes
   expand-is = ap (yieldMeant t) ey ∙ yield-meant t side side-in ∙ ap yielded (ap (sideMeant t) es ∙ remote-meant op t r)
 
-  module _ (size : ℕ) (ez : size ≡ length (recordBytes (yieldMeant t y))) (entry : Text) where
-    -- a buffer that is too short is told 17 and the list's length, and kept
-    pub expand-short : length entry < size → MeetsOne (accepted (some (recordBytes (expandPrefixes op (specMeant t r))) ∷ [])) entry entry 17 0 size
-    expand-short h =
-        let n : length entry < length (recordBytes (yieldMeant t y)) = rw ez at h in
-        rw (← expand-is) (meets-short (accepted (some (recordBytes (yieldMeant t y)) ∷ [])) entry entry (recordBytes (yieldMeant t y)) 17 0 size refl n refl refl refl ez)
-
-    -- any other has room
-    pub expand-room : size ≤ length entry → length (recordBytes (yieldMeant t y)) ≤ length entry
-    expand-room h = rw ez at h
-
-    -- and holds the list afterwards
-    pub expand-written : (exit : Text) → size ≤ length entry → exit ≡ splice entry 0 (recordBytes (yieldMeant t y)) → MeetsOne (accepted (some (recordBytes (expandPrefixes op (specMeant t r))) ∷ [])) entry exit 0 0 size
-    expand-written exit h e =
-        rw (← expand-is) (meets-written (accepted (some (recordBytes (yieldMeant t y)) ∷ [])) entry exit (recordBytes (yieldMeant t y)) 0 0 size refl (expand-room h) (e ∙ splice-start entry (recordBytes (yieldMeant t y))) refl refl ez)
+  -- as a list too
+  pub expand-list : recordBytes (yieldMeant t y) ≡ recordBytes (expandPrefixes op (specMeant t r))
+  expand-list = ap recordBytes expand-is
 
 -- ---- the entry
 
--- an accepted spec's prefixes are written
-pub expanded-accepted : (op : ℕ) (t : Text) (answer : Parsed) (entry exit : Text) (r : RefSpec) (a b c : ℕ) → answer ≡ parsed op t → answer ≡ Spec r → MeetsOne (accepted (some (recordBytes (expandPrefixes op (specMeant t r))) ∷ [])) entry exit a b c → MeetsOne (expanded op t) entry exit a b c
-unfolding expanded
-expanded-accepted op t answer entry exit r a b c ea e m = rw (read-accepted op t answer ea r e) m
+module _ (op : ℕ) (t : Text) (answer : Parsed) (ea : answer ≡ parsed op t) (entry : Text) where
+  -- an accepted spec's prefixes are written
+  pub expanded-accepted : (exit : Text) (r : RefSpec) (a b c : ℕ) → answer ≡ Spec r → MeetsOne (accepted (some (recordBytes (expandPrefixes op (specMeant t r))) ∷ [])) entry exit a b c → MeetsOne (expanded op t) entry exit a b c
+  unfolding expanded
+  expanded-accepted = spec-accepted (λ s. recordBytes (expandPrefixes op s)) op t answer ea entry
 
--- a refused one leaves the buffer as it was
-pub expanded-refused : (op : ℕ) (t : Text) (answer : Parsed) (entry : Text) (n : ℕ) → answer ≡ parsed op t → answer ≡ Refused n → MeetsOne (expanded op t) entry entry n 0 0
-unfolding expanded
-expanded-refused op t answer entry n ea e = meets-refused (expanded op t) entry entry n none n 0 0 (rw (read-refused op t answer ea n e)) refl refl refl refl
+  -- a refused one leaves the buffer as it was
+  pub expanded-refused : (n : ℕ) → answer ≡ Refused n → MeetsOne (expanded op t) entry entry n 0 0
+  unfolding expanded
+  expanded-refused = spec-refused (λ s. recordBytes (expandPrefixes op s)) op t answer ea entry

@@ -5,6 +5,7 @@ use native.Mathlib.Nat.{add-zero}
 use mathlib.Core.Path.{_≡_, sym}
 use lib.ListN.{length, take, drop}
 use Rattle.meaning.specs.Bytes.{Text, bytes}
+use Rattle.meaning.specs.Limits.{specBytes}
 use Rattle.text.specs.Splice.{splice}
 use Rattle.text.proofs.Splices.{splice-none}
 use Rattle.parse.specs.declared.types.Side.{Side}
@@ -20,7 +21,7 @@ module _ (t : Text) (side : Side) where
     size-part = rw is (sym (part-length t at n (rw is at w)))
 
     -- and not more than its spec
-    pub size-part-most : length t ≤ 4096 → n ≤ 4096
+    pub size-part-most : length t ≤ specBytes → n ≤ specBytes
     size-part-most h = let g : at + n ≤ length t = rw is at w in omega arith
 
 -- `&t[from..from + n]` is written

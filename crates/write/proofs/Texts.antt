@@ -5,16 +5,15 @@ use native.Mathlib.Nat.{add-zero}
 use mathlib.Core.Path.{_≡_, refl, sym, ap, _∙_}
 use mathlib.Core.Bool.{Bool, true, false, cond}
 use mathlib.Core.List.{[], _∷_, _++_, append-nil}
-use mathlib.Core.Option.{none, some}
+use mathlib.Core.Option.{some}
 use lib.ListN.{length, length-append}
 use Rattle.meaning.specs.Bytes.{Text}
 use Rattle.meaning.specs.Spec.{accepted, isNegative, isForce, push}
 use Rattle.meaning.specs.Instruction.{instructionText, canonicalText}
 use Rattle.meaning.specs.Buffers.{MeetsOne}
 use Rattle.meaning.specs.Entries.{toBstring}
-use Rattle.promises.proofs.Buffers.{meets-refused, meets-short, meets-written}
 use Rattle.text.specs.Splice.{splice}
-use Rattle.text.proofs.Splices.{splice-none, splice-start}
+use Rattle.text.proofs.Splices.{splice-none}
 use Rattle.text.proofs.Pairs.{pair-first, pair-second, pair-put}
 use Rattle.parse.specs.declared.types.Side.{Side}
 use Rattle.parse.specs.declared.types.Side.the-variants.{Absent}
@@ -22,13 +21,13 @@ use Rattle.parse.specs.declared.types.RefSpec.{RefSpec}
 use Rattle.parse.specs.declared.Parsed.{Parsed}
 use Rattle.parse.specs.declared.Parsed.the-variants.{Spec, Refused}
 use Rattle.parse.specs.Places.{modeMeant, Within, SidesWithin, specMeant, parsed, isPresent}
-use Rattle.parse.proofs.Answers.{read-accepted, read-refused}
 use Rattle.refspec.specs.declared.instruction.Instruction.{Instruction}
 use Rattle.refspec.specs.declared.instruction.Instruction.the-variants.{FetchOnly, FetchExclude, FetchAndUpdate, PushAllMatchingBranches, PushDelete, PushMatching, PushExclude}
 use Rattle.write.specs.declared.canonical.Pieces.{Pieces}
 use Rattle.refspec.specs.Instructions.{sideText, fetchPlaces, pushPlaces, instructionPlaces, instructionMeant}
 use Rattle.write.specs.Canonical.{onePiece, twoPieces, piecesOf, signText, colonText, piecesText, PiecesWithin}
 use Rattle.refspec.proofs.Instructions.{instruction-meant}
+use Rattle.write.proofs.Meets.{spec-accepted, spec-refused}
 
 -- ---- the pieces
 
@@ -217,35 +216,19 @@ module _ (op : ℕ) (t : Text) (r : RefSpec) (i : Instruction) (p : Pieces) (ei 
   pieces-within len w = rw (ep, ei) (instruction-pieces len op r w)
 
   -- the pieces of a spec make its canonical text
-  canonical-is : piecesText t p ≡ canonicalText op (specMeant t r)
+  pub canonical-is : piecesText t p ≡ canonicalText op (specMeant t r)
   unfolding canonicalText
   canonical-is = ap (piecesText t) (ep ∙ ap piecesOf ei) ∙ pieces-text t (instructionPlaces op r) ∙ ap instructionText (instruction-meant op t r)
 
-  module _ (size : ℕ) (es : size ≡ length (piecesText t p)) (entry : Text) where
-    -- a buffer that is too short is told 17 and the text's length, and kept
-    pub canonical-short : length entry < size → MeetsOne (accepted (some (canonicalText op (specMeant t r)) ∷ [])) entry entry 17 0 size
-    canonical-short h =
-        let n : length entry < length (piecesText t p) = rw es at h in
-        rw (← canonical-is) (meets-short (accepted (some (piecesText t p) ∷ [])) entry entry (piecesText t p) 17 0 size refl n refl refl refl es)
-
-    -- any other has room
-    pub canonical-room : size ≤ length entry → length (piecesText t p) ≤ length entry
-    canonical-room h = rw es at h
-
-    -- and holds the text afterwards
-    pub canonical-written : (exit : Text) → size ≤ length entry → exit ≡ splice entry 0 (piecesText t p) → MeetsOne (accepted (some (canonicalText op (specMeant t r)) ∷ [])) entry exit 0 0 size
-    canonical-written exit h e =
-        rw (← canonical-is) (meets-written (accepted (some (piecesText t p) ∷ [])) entry exit (piecesText t p) 0 0 size refl (canonical-room h) (e ∙ splice-start entry (piecesText t p)) refl refl es)
-
 -- ---- the entry
 
--- an accepted spec is written
-module _ (op : ℕ) (t : Text) (answer : Parsed) (ea : answer ≡ parsed op t) (entry exit : Text) where
-  pub bstring-accepted : (r : RefSpec) (a b c : ℕ) → answer ≡ Spec r → MeetsOne (accepted (some (canonicalText op (specMeant t r)) ∷ [])) entry exit a b c → MeetsOne (toBstring op t) entry exit a b c
+module _ (op : ℕ) (t : Text) (answer : Parsed) (ea : answer ≡ parsed op t) (entry : Text) where
+  -- an accepted spec is written
+  pub bstring-accepted : (exit : Text) (r : RefSpec) (a b c : ℕ) → answer ≡ Spec r → MeetsOne (accepted (some (canonicalText op (specMeant t r)) ∷ [])) entry exit a b c → MeetsOne (toBstring op t) entry exit a b c
   unfolding toBstring
-  bstring-accepted r a b c e m = rw (read-accepted op t answer ea r e) m
+  bstring-accepted = spec-accepted (canonicalText op) op t answer ea entry
 
--- a refused one leaves the buffer as it was
-pub bstring-refused : (op : ℕ) (t : Text) (answer : Parsed) (entry : Text) (n : ℕ) → answer ≡ parsed op t → answer ≡ Refused n → MeetsOne (toBstring op t) entry entry n 0 0
-unfolding toBstring
-bstring-refused op t answer entry n ea e = meets-refused (toBstring op t) entry entry n none n 0 0 (rw (read-refused op t answer ea n e)) refl refl refl refl
+  -- a refused one leaves the buffer as it was
+  pub bstring-refused : (n : ℕ) → answer ≡ Refused n → MeetsOne (toBstring op t) entry entry n 0 0
+  unfolding toBstring
+  bstring-refused = spec-refused (canonicalText op) op t answer ea entry

@@ -5,6 +5,7 @@ ghost use mathlib.Core.Option.{some};
 ghost use Prim.Native.Nat.{_+_, _≤_};
 ghost use lib.ListN.{length};
 ghost use Rattle.text.specs.Splice.{splice};
+ghost use Rattle.meaning.specs.Limits.{specBytes};
 ghost use Rattle.meaning.specs.Spec.{accepted};
 ghost use Rattle.meaning.specs.Instruction.{canonicalText};
 ghost use Rattle.meaning.specs.Buffers.{MeetsOne};
@@ -113,7 +114,7 @@ fn colon_size(colon: bool) -> usize
 
 // How many bytes the text of the pieces has.
 fn pieces_size(spec: &[u8], p: Pieces) -> usize
-    requires { ⌜ PiecesWithin (length (now spec)) p × (length (now spec) ≤ 4096) ⌝ }
+    requires { ⌜ PiecesWithin (length (now spec)) p × (length (now spec) ≤ specBytes) ⌝ }
     ensures { λ r. ⌜ r ≡ length (piecesText (now (spec .entry)) p) ⌝ }
 {
     let sign = p.sign;
@@ -178,7 +179,7 @@ fn put_pieces(out: &mut [u8], spec: &[u8], p: Pieces)
 
 // The canonical text of a spec that was read.
 fn write_to(op: u64, spec: &[u8], r: RefSpec, out: &mut [u8]) -> Written
-    requires { ⌜ SidesWithin (length (now spec)) r × (length (now spec) ≤ 4096) ⌝ }
+    requires { ⌜ SidesWithin (length (now spec)) r × (length (now spec) ≤ specBytes) ⌝ }
     ensures { λ w. ⌜ MeetsOne (accepted (some (canonicalText op (specMeant (now (spec .entry)) r)) ∷ [])) (now (out .entry)) (now (out .exit)) (w .refusal) (w .record) (w .length) ⌝ }
 {
     let p = pieces_of(instruction_of(op, r));

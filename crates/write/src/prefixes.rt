@@ -4,6 +4,7 @@ ghost use mathlib.Core.List.{[], _∷_};
 ghost use mathlib.Core.Option.{some};
 ghost use Prim.Native.Nat.{_+_, _≤_};
 ghost use lib.ListN.{length};
+ghost use Rattle.meaning.specs.Limits.{specBytes};
 ghost use Rattle.meaning.specs.Spec.{accepted};
 ghost use Rattle.meaning.specs.Number.{textBytes, recordBytes};
 ghost use Rattle.meaning.specs.Prefix.{candidates, expandPrefixes};
@@ -27,7 +28,7 @@ use refspec::spec::prefix_of;
 use refspec::spec::remote;
 
 // What a spec yields: nothing, one text, or the six candidates of the name of so many bytes that begins at a place.
-pub(crate) enum Yield {
+pub enum Yield {
     Nothing,
     One(Side),
     Six(usize, usize),
@@ -63,7 +64,7 @@ fn part_yield(spec: &[u8], at: usize, n: usize) -> Yield
 }
 
 // What a side yields; an absent one nothing.
-fn yield_of(spec: &[u8], side: Side) -> Yield
+pub fn yield_of(spec: &[u8], side: Side) -> Yield
     requires { ⌜ Within (length (now spec)) side ⌝ }
     ensures { λ r. ⌜ r ≡ yieldPlace (now (spec .entry)) side ⌝ }
 {
@@ -76,7 +77,7 @@ fn yield_of(spec: &[u8], side: Side) -> Yield
 
 // How many bytes a side takes as a record.
 fn record_size(spec: &[u8], side: Side) -> usize
-    requires { ⌜ Within (length (now spec)) side × (length (now spec) ≤ 4096) ⌝ }
+    requires { ⌜ Within (length (now spec)) side × (length (now spec) ≤ specBytes) ⌝ }
     ensures { λ r. ⌜ r ≡ length (textBytes (sideText (now (spec .entry)) side)) ⌝ }
 {
     let n = side_size(spec, side);
@@ -85,7 +86,7 @@ fn record_size(spec: &[u8], side: Side) -> usize
 
 // How many bytes the candidates of the name of n bytes that begins at a place take.
 fn six_size(spec: &[u8], at: usize, n: usize) -> usize
-    requires { ⌜ (at + n ≤ length (now spec)) × (length (now spec) ≤ 4096) ⌝ }
+    requires { ⌜ (at + n ≤ length (now spec)) × (length (now spec) ≤ specBytes) ⌝ }
     ensures { λ r. ⌜ r ≡ length (recordBytes (candidates (partAt (now (spec .entry)) at n))) ⌝ }
 {
     let end = at + n;
@@ -94,7 +95,7 @@ fn six_size(spec: &[u8], at: usize, n: usize) -> usize
 
 // How many bytes a yield takes as a prefix list.
 fn yield_size(spec: &[u8], y: Yield) -> usize
-    requires { ⌜ YieldWithin (length (now spec)) y × (length (now spec) ≤ 4096) ⌝ }
+    requires { ⌜ YieldWithin (length (now spec)) y × (length (now spec) ≤ specBytes) ⌝ }
     ensures { λ r. ⌜ r ≡ length (recordBytes (yieldMeant (now (spec .entry)) y)) ⌝ }
 {
     match y {
@@ -106,7 +107,7 @@ fn yield_size(spec: &[u8], y: Yield) -> usize
 
 // Writes a side as a record at the start of the buffer.
 fn put_record(out: &mut [u8], spec: &[u8], side: Side)
-    requires { ⌜ Within (length (now spec)) side × (length (now spec) ≤ 4096) × (length (textBytes (sideText (now spec) side)) ≤ length (now out)) ⌝ }
+    requires { ⌜ Within (length (now spec)) side × (length (now spec) ≤ specBytes) × (length (textBytes (sideText (now spec) side)) ≤ length (now out)) ⌝ }
     ensures { λ _. ⌜ now (out .exit) ≡ splice (now (out .entry)) 0 (textBytes (sideText (now (spec .entry)) side)) ⌝ }
 {
     let n = side_size(spec, side);
@@ -116,7 +117,7 @@ fn put_record(out: &mut [u8], spec: &[u8], side: Side)
 
 // Writes the candidates of the name of n bytes that begins at a place, at the start of the buffer.
 fn put_six(out: &mut [u8], spec: &[u8], at: usize, n: usize)
-    requires { ⌜ (at + n ≤ length (now spec)) × (length (now spec) ≤ 4096) × (length (recordBytes (candidates (partAt (now spec) at n))) ≤ length (now out)) ⌝ }
+    requires { ⌜ (at + n ≤ length (now spec)) × (length (now spec) ≤ specBytes) × (length (recordBytes (candidates (partAt (now spec) at n))) ≤ length (now out)) ⌝ }
     ensures { λ _. ⌜ now (out .exit) ≡ splice (now (out .entry)) 0 (recordBytes (candidates (partAt (now (spec .entry)) at n))) ⌝ }
 {
     let end = at + n;
@@ -125,7 +126,7 @@ fn put_six(out: &mut [u8], spec: &[u8], at: usize, n: usize)
 
 // Writes a yield as a prefix list at the start of the buffer.
 fn put_yield(out: &mut [u8], spec: &[u8], y: Yield)
-    requires { ⌜ YieldWithin (length (now spec)) y × (length (now spec) ≤ 4096) × (length (recordBytes (yieldMeant (now spec) y)) ≤ length (now out)) ⌝ }
+    requires { ⌜ YieldWithin (length (now spec)) y × (length (now spec) ≤ specBytes) × (length (recordBytes (yieldMeant (now spec) y)) ≤ length (now out)) ⌝ }
     ensures { λ _. ⌜ now (out .exit) ≡ splice (now (out .entry)) 0 (recordBytes (yieldMeant (now (spec .entry)) y)) ⌝ }
 {
     match y {
@@ -137,7 +138,7 @@ fn put_yield(out: &mut [u8], spec: &[u8], y: Yield)
 
 // The prefixes of a spec that was read.
 fn expand(op: u64, spec: &[u8], r: RefSpec, out: &mut [u8]) -> Written
-    requires { ⌜ SidesWithin (length (now spec)) r × (length (now spec) ≤ 4096) ⌝ }
+    requires { ⌜ SidesWithin (length (now spec)) r × (length (now spec) ≤ specBytes) ⌝ }
     ensures { λ w. ⌜ MeetsOne (accepted (some (recordBytes (expandPrefixes op (specMeant (now (spec .entry)) r))) ∷ [])) (now (out .entry)) (now (out .exit)) (w .refusal) (w .record) (w .length) ⌝ }
 {
     let y = yield_of(spec, remote(op, r));

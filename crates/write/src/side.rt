@@ -2,6 +2,7 @@
 ghost use mathlib.Core.Path.{_≡_};
 ghost use Prim.Native.Nat.{_+_, _≤_};
 ghost use lib.ListN.{length};
+ghost use Rattle.meaning.specs.Limits.{specBytes};
 ghost use Rattle.text.specs.Splice.{splice};
 ghost use Rattle.parse.specs.Places.{partAt, Within};
 ghost use Rattle.refspec.specs.Instructions.{sideText};
@@ -9,8 +10,8 @@ use parse::types::Side;
 
 // How many bytes the text of a side has.
 pub(crate) fn side_size(spec: &[u8], side: Side) -> usize
-    requires { ⌜ Within (length (now spec)) side × (length (now spec) ≤ 4096) ⌝ }
-    ensures { λ r. ⌜ (r ≡ length (sideText (now (spec .entry)) side)) × (r ≤ 4096) ⌝ }
+    requires { ⌜ Within (length (now spec)) side × (length (now spec) ≤ specBytes) ⌝ }
+    ensures { λ r. ⌜ (r ≡ length (sideText (now (spec .entry)) side)) × (r ≤ specBytes) ⌝ }
 {
     match side {
         Side::Absent => 0,

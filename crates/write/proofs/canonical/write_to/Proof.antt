@@ -1,5 +1,6 @@
 -- The pieces of the instruction make the canonical text, which is measured before it is written. Assumes nothing.
-use Rattle.write.proofs.Texts.{pieces-within, canonical-short, canonical-room, canonical-written}
+use Rattle.write.proofs.Meets.{made-room, made-short, made-written}
+use Rattle.write.proofs.Texts.{pieces-within, canonical-is}
 use borrow.Author.Needs.{needs}
 use Rattle.write.proofs.canonical.write_to.Statement.{statement}
 use Rattle.write.proofs.canonical.write_to.Tie as tie
@@ -14,16 +15,16 @@ pieces-size-requires : tie.Need-pieces-size-requires
 pieces-size-requires c κs = (search pieces-within, search needs)
 
 returns : tie.Need-returns
-returns c = search canonical-short
+returns c = search (made-short, canonical-is)
 
 put-pieces-requires : tie.Need-put-pieces-requires
-put-pieces-requires c κs = (search pieces-within, search canonical-room)
+put-pieces-requires c κs = (search pieces-within, search made-room)
 
 same-length : tie.Need-same-length
 same-length c = search needs
 
 returns-2 : tie.Need-returns-2
-returns-2 c = search canonical-written
+returns-2 c = search (made-written, canonical-is)
 
 pub write-to-spec : {M : Type 1} → statement M
 write-to-spec =

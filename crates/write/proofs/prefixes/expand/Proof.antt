@@ -1,6 +1,7 @@
 -- The yield of the side denotes the prefixes, which are measured before they are written. Assumes nothing.
 use Rattle.refspec.proofs.Fronts.{remote-within}
-use Rattle.write.proofs.Lists.{yield-within, expand-short, expand-room, expand-written}
+use Rattle.write.proofs.Lists.{yield-within, expand-list}
+use Rattle.write.proofs.Meets.{made-room, made-short, made-written}
 use borrow.Author.Needs.{needs}
 use Rattle.write.proofs.prefixes.expand.Statement.{statement}
 use Rattle.write.proofs.prefixes.expand.Tie as tie
@@ -15,16 +16,16 @@ yield-size-requires : tie.Need-yield-size-requires
 yield-size-requires c κs = (search yield-within, search needs)
 
 returns : tie.Need-returns
-returns c = search expand-short
+returns c = search (made-short, expand-list)
 
 put-yield-requires : tie.Need-put-yield-requires
-put-yield-requires c κs = (search yield-within, search needs, search expand-room)
+put-yield-requires c κs = (search yield-within, search needs, search made-room)
 
 same-length : tie.Need-same-length
 same-length c = search needs
 
 returns-2 : tie.Need-returns-2
-returns-2 c = search expand-written
+returns-2 c = search (made-written, expand-list)
 
 pub expand-spec : {M : Type 1} → statement M
 expand-spec =

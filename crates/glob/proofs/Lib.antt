@@ -1,0 +1,2 @@
+-- `Ends`: a name by its start and its end.
+pub mod Ends

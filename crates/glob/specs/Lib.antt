@@ -1,0 +1,2 @@
+-- `Captures`: what a capture denotes.
+pub mod Captures
