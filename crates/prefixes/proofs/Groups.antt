@@ -1,0 +1,90 @@
+-- A group's prefix list, from what reading its spec list answers. Assumes nothing.
+use Prim.Native.Nat.{ℕ, _≤_}
+use native.Mathlib.Omega.{arith}
+use mathlib.Core.Path.{_≡_, refl}
+use mathlib.Core.Bool.{Bool, true, false, cond}
+use mathlib.Core.List.{List, [], _∷_}
+use mathlib.Core.Option.{Option, none, some}
+use borrow.Author.Tests.{leb-true}
+use lib.Dec.{leb}
+use lib.ListN.{length, take}
+use Rattle.meaning.specs.Bytes.{Text}
+use Rattle.meaning.specs.Limits.{listBytes, specCount}
+use Rattle.meaning.specs.Spec.{accepted, refused, Spec}
+use Rattle.meaning.specs.Number.{recordBytes}
+use Rattle.meaning.specs.Lists.{recordsFrom, specRecord, readList, readSpecs}
+use Rattle.meaning.specs.Prefix.{GroupPrefixes}
+use Rattle.meaning.specs.Buffers.{MeetsOne}
+use Rattle.meaning.specs.Entries.{IsGroupPrefixes}
+use Rattle.promises.proofs.Buffers.{meets-refused}
+use Rattle.list.specs.declared.specs.Group.{Group}
+use Rattle.list.specs.Group.{groupMeant, AllWithin, GroupRead}
+use Rattle.list.proofs.Told.{GroupPassed, group-passed, group-failed}
+use Rattle.prefixes.specs.Table.{tableTexts}
+use Rattle.prefixes.specs.Group.{groupTexts, Collected, MeetsPrefixes}
+use Rattle.prefixes.proofs.Distinct.{distinct-prefixes}
+
+-- the list of a table is that of the group whose texts it holds
+pub table-meets : (op : ℕ) (specs : Text) (group : List Spec) (table : List ℕ) (c : ℕ) (entry exit : Text) (refusal recordNumber size : ℕ) → Collected op specs group table c → MeetsOne (accepted (some (recordBytes (tableTexts specs table c)) ∷ [])) entry exit refusal recordNumber size → MeetsOne (accepted (some (recordBytes (groupTexts op group)) ∷ [])) entry exit refusal recordNumber size
+table-meets op specs group table c entry exit refusal recordNumber size x m = rw (x .holds) at m
+
+-- a group's texts are its prefix list
+texts-are : (op : ℕ) (group : List Spec) → GroupPrefixes op group (groupTexts op group)
+unfolding groupTexts
+texts-are op group = distinct-prefixes op group
+
+-- a spec list that was accepted has at most 65,535 bytes
+list-short : (op : ℕ) (specs : Text) (group : List Spec) → readSpecs op specs ≡ accepted group → length specs ≤ listBytes
+unfolding readSpecs readList
+list-short op specs group e = go (leb op 1) (leb (length specs) listBytes) refl e
+  where
+    go : (a b : Bool) → leb (length specs) listBytes ≡ b → cond a (cond b (recordsFrom (specRecord op) (length specs) 0 specs) (refused 12 none)) (refused 18 none) ≡ accepted group → length specs ≤ listBytes
+    go true true h q = leb-true (length specs) listBytes h
+    go true false h q = absurd (let z : _≡_ {A = ℕ} 0 1 = cc in omega arith)
+    go false b h q = absurd (let z : _≡_ {A = ℕ} 0 1 = cc in omega arith)
+
+-- the answer on a refused list
+refused-is : (op : ℕ) (specs : Text) (n : ℕ) (r : Option ℕ) → readSpecs op specs ≡ refused n r → IsGroupPrefixes op specs (refused n r)
+unfolding IsGroupPrefixes
+refused-is op specs n r e = rw e refl
+
+-- and on an accepted one
+accepted-is : (op : ℕ) (specs : Text) (group : List Spec) → readSpecs op specs ≡ accepted group → IsGroupPrefixes op specs (accepted (some (recordBytes (groupTexts op group)) ∷ []))
+unfolding IsGroupPrefixes
+accepted-is op specs group e = rw e (groupTexts op group, texts-are op group, refl)
+
+module _ (op : ℕ) (specs : Text) (g : Group) (r : GroupRead specs g (readSpecs op specs)) (entry : Text) where
+  -- a refused list leaves the buffer as it was
+  pub group-refused : (g .refusal ≡ 0 → ⊥) → MeetsPrefixes op specs entry entry (g .refusal) (g .«record») 0
+  group-refused z =
+      let f = group-failed specs g (readSpecs op specs) r z in
+      record {
+        answer = refused (g .refusal) (f .carried);
+        is = refused-is op specs (g .refusal) (f .carried) (f .answer);
+        meets = meets-refused (refused (g .refusal) (f .carried)) entry entry (g .refusal) (f .carried) (g .refusal) (g .«record») 0 refl refl refl (f .number) refl;
+      }
+
+  module _ (z : g .refusal ≡ 0) where
+    passed : GroupPassed specs g (readSpecs op specs)
+    passed = group-passed specs g (readSpecs op specs) r z
+
+    -- an accepted one has at most 256 specs
+    pub group-count : g .count ≤ specCount
+    group-count = passed .is .count-within
+
+    -- whose sides stand within it
+    pub group-within : AllWithin (length specs) (take (g .count) (g .specs))
+    group-within = passed .is .within
+
+    -- and is short
+    pub group-short : length specs ≤ listBytes
+    group-short = list-short op specs (passed .members) (passed .answer)
+
+    -- its texts are its prefix list
+    pub group-accepted : (exit : Text) (a b c : ℕ) → MeetsOne (accepted (some (recordBytes (groupTexts op (groupMeant specs (take (g .count) (g .specs))))) ∷ [])) entry exit a b c → MeetsPrefixes op specs entry exit a b c
+    group-accepted exit a b c m =
+        record {
+          answer = accepted (some (recordBytes (groupTexts op (passed .members))) ∷ []);
+          is = accepted-is op specs (passed .members) (passed .answer);
+          meets = rw (passed .is .means) at m;
+        }

@@ -1,0 +1,29 @@
+-- The texts of a group in a table, and a call that meets its buffer with a group's prefix list.
+use Prim.Native.Nat.{ℕ, _*_, _≤_}
+use mathlib.Core.Path.{_≡_}
+use mathlib.Core.List.{List, []}
+use lib.ListN.{length}
+use Rattle.meaning.specs.Bytes.{Text, each}
+use Rattle.meaning.specs.Limits.{specCount}
+use Rattle.meaning.specs.Spec.{Answer, Spec}
+use Rattle.meaning.specs.Prefix.{expandPrefixes}
+use Rattle.meaning.specs.Buffers.{Written, MeetsOne}
+use Rattle.meaning.specs.Entries.{IsGroupPrefixes}
+use Rattle.prefixes.specs.Distinct.{addAll}
+use Rattle.prefixes.specs.Table.{tableTexts, Entries}
+
+-- the texts that the specs of a group yield, in first-seen order, each once
+unfoldable pub groupTexts : ℕ → List Spec → List Text
+groupTexts op group = addAll [] (each group (expandPrefixes op))
+
+-- a table of c entries holds them; a spec yields at most six
+pub record Collected (op : ℕ) (specs : Text) (group : List Spec) (table : List ℕ) (c : ℕ) : Type 0 where
+  pub entries : Entries (length specs) table c
+  pub holds : tableTexts specs table c ≡ groupTexts op group
+  pub few : c ≤ 6 * specCount
+
+-- the prefix list of the group that a spec list holds, in some order, meets the buffer, and three numbers tell so
+pub record MeetsPrefixes (op : ℕ) (specs entry exit : Text) (refusal recordNumber size : ℕ) : Type 0 where
+  pub answer : Answer Written
+  pub is : IsGroupPrefixes op specs answer
+  pub meets : MeetsOne answer entry exit refusal recordNumber size
