@@ -1,0 +1,75 @@
+-- `exclude::put_numbers` meets its contract: the four numbers stand there, and those before them stay.
+use native.Mathlib.Omega.{arith}
+use Prim.Native.Nat.{_+_, _*_, _≤_}
+use lib.ListN.{length}
+use mathlib.Core.Path.{refl}
+use Rattle.exclude.proofs.Tables.{second-room, third-room, fourth-room, stored}
+use borrow.Author.Needs.{needs}
+use borrow.Author.Needs.{needs}
+use Rattle.exclude.proofs.put_numbers.Statement.{statement}
+use Rattle.exclude.proofs.put_numbers.Tie as tie
+
+mul-i : tie.Need-mul-i
+mul-i c = search needs
+
+mul-out : tie.Need-mul-out
+mul-out c = search needs
+
+slice-write-out : tie.Need-slice-write-out
+slice-write-out c = search needs
+
+add-out : tie.Need-add-out
+add-out c = search needs
+
+mul-out-2 : tie.Need-mul-out-2
+mul-out-2 c = search needs
+
+slice-write-out-2 : tie.Need-slice-write-out-2
+slice-write-out-2 c = let h : 4 * c .args .k + 4 ≤ length (c .args .out .now) = omega arith in search second-room
+
+add-out-2 : tie.Need-add-out-2
+add-out-2 c = search needs
+
+mul-out-3 : tie.Need-mul-out-3
+mul-out-3 c = search needs
+
+slice-write-out-3 : tie.Need-slice-write-out-3
+slice-write-out-3 c = let h : 4 * c .args .k + 4 ≤ length (c .args .out .now) = omega arith in search third-room
+
+add-out-3 : tie.Need-add-out-3
+add-out-3 c = search needs
+
+mul-out-4 : tie.Need-mul-out-4
+mul-out-4 c = search needs
+
+slice-write-out-4 : tie.Need-slice-write-out-4
+slice-write-out-4 c = let h : 4 * c .args .k + 4 ≤ length (c .args .out .now) = omega arith in search fourth-room
+
+add-result : tie.Need-add-result
+add-result c = search needs
+
+same-length : tie.Need-same-length
+same-length c = search needs
+
+returns : tie.Need-returns
+returns c = let h : 4 * c .args .k + 4 ≤ length (c .args .out .now) = omega arith in (refl, search stored)
+
+pub put-numbers-spec : {M : Type 1} → statement M
+put-numbers-spec =
+    tie.close
+    (tie.spec
+    mul-i
+    mul-out
+    slice-write-out
+    add-out
+    mul-out-2
+    slice-write-out-2
+    add-out-2
+    mul-out-3
+    slice-write-out-3
+    add-out-3
+    mul-out-4
+    slice-write-out-4
+    add-result
+    same-length
+    returns)
