@@ -1,0 +1,9 @@
+pub mod Listings
+pub mod Rows
+pub mod Loops
+pub mod Items
+pub mod Kept
+pub mod Specs
+pub mod OneSpec
+pub mod Ready
+pub mod Entry
