@@ -1,23 +1,31 @@
 /* Vasigmon: Git's refspecs, read, mapped and validated by code that is proved.
  *
  * A spec is a byte string that names a source and a destination of references.
- * It is read for fetch (operation 0) or for push (operation 1). Each call here
- * is on one spec, and each reads the spec itself: there is nothing to keep
- * between two calls, nothing to release, and no call allocates.
+ * It is read for fetch (operation 0) or for push (operation 1). A call is on one
+ * spec, or on a list of specs and a list of names, which are called items. Each
+ * call reads what it is lent: there is nothing to keep between two calls, nothing
+ * to release, and no call allocates.
  *
  * Lending bytes. Every pointer is lent for the duration of the call together
  * with a length. A pointer must never be null, not even beside length 0: where
  * there is nothing to lend, pass the address of any byte. An output buffer must
- * not overlap the spec.
+ * not overlap anything else that is lent.
  *
  * Answers. Each answer is a struct that is returned by value. Its field
  * `refusal` is 0 for a result, else one of the numbers of
  * `enum vasigmon_refusal`. A field without a meaning in an answer is 0, so in a
- * refusal every other field is 0 (but the length beside 17).
+ * refusal every other field is 0 (but the length beside 17, and the number of the
+ * record that a list is refused for).
  *
  * Places. A side of a spec is answered as a kind (`enum vasigmon_side`) with a
  * start and a length: the bytes spec[start] to spec[start + length - 1] of the
  * spec that was lent. No answer holds a pointer.
+ *
+ * Lists. A number is written in groups of seven bits, lowest first, the top bit
+ * set while more follow, in its shortest form and in at most three groups. A list
+ * of specs, items or prefixes holds for each record its length, then its bytes.
+ * Records count from 0. A spec list has at most 256 records, an item list 1,024,
+ * and each at most 65,535 bytes; a name has at most 4,096.
  *
  * Link with libvasigmon.a, which `rt staticlib vasigmon` writes to
  * target/staticlib/. It needs nothing beyond the C library.
@@ -38,8 +46,11 @@ enum vasigmon_operation {
     VASIGMON_PUSH = 1
 };
 
-/* Why a call was refused. The questions are asked in this order, but 18 comes
- * before all others, and the first that is answered by no gives the number. */
+/* Why a call was refused: the first question that is answered by no gives the
+ * number. 18 comes before all others. Of one spec, the questions are asked in this
+ * order. Of lists, 12 comes first; then of each record in turn 14, then 13, then a
+ * spec's own questions, or 15 of an item. The spec list is read wholly before the
+ * items are looked at. 17 comes last. */
 enum vasigmon_refusal {
     VASIGMON_ACCEPTED = 0,               /* no refusal: the answer is a result */
     VASIGMON_SPEC_TOO_LONG = 1,          /* the spec is above 4,096 bytes */
@@ -53,6 +64,11 @@ enum vasigmon_refusal {
     VASIGMON_ONE_STAR_OF_TWO = 9,        /* one side has a star and the other has none */
     VASIGMON_NEGATIVE_EMPTY = 10,        /* no source follows `^` */
     VASIGMON_NEGATIVE_OBJECT = 11,       /* the source after `^` is forty or more bytes, all hexadecimal digits */
+    VASIGMON_LIST_TOO_LONG = 12,         /* a spec list or an item list is above 65,535 bytes */
+    VASIGMON_MALFORMED = 13,             /* the record is not well formed within its list */
+    VASIGMON_TOO_MANY_RECORDS = 14,      /* the record is beyond 256 specs or 1,024 items */
+    VASIGMON_NAME_TOO_LONG = 15,         /* the item's name is above 4,096 bytes */
+    VASIGMON_OUTSIDE_THE_LISTS = 16,     /* a number is outside the lists, or no object id stands where one must */
     VASIGMON_BUFFER_TOO_SHORT = 17,      /* the output buffer is not long enough for the whole answer */
     VASIGMON_NO_SUCH_OPERATION = 18      /* the operation is neither 0 nor 1 */
 };
@@ -138,7 +154,8 @@ vasigmon_prefix_t vasigmon_prefix(uint64_t op, const uint8_t *spec, size_t spec_
  * buffer that will do: at least what is needed and at most twice that. */
 typedef struct vasigmon_written {
     uint64_t refusal;
-    uint64_t record;                     /* the number of the refused record of a list; 0 in a call on one spec */
+    uint64_t record;                     /* the number of the refused record of a list; 0 in a call on one spec,
+                                            and beside 12, 17 and 18, which are about no record */
     uint64_t length;
 } vasigmon_written;
 
@@ -146,14 +163,65 @@ typedef struct vasigmon_written {
 vasigmon_written vasigmon_to_bstring(uint64_t op, const uint8_t *spec, size_t spec_len,
                                      uint8_t *out, size_t out_len);
 
-/* Writes the prefixes of the names that a spec asks the remote for, as a list:
- * for each prefix its length, then its bytes. A length is a number in groups of
- * seven bits, lowest first, the top bit set while more follow. A partial name
- * such as `main` gives six: `main`, `refs/main`, `refs/tags/main`,
+/* Writes the prefixes of the names that a spec asks the remote for, as a list. A
+ * partial name such as `main` gives six: `main`, `refs/main`, `refs/tags/main`,
  * `refs/heads/main`, `refs/remotes/main`, `refs/remotes/main/HEAD`. The list
  * may be empty. */
 vasigmon_written vasigmon_expand_prefixes(uint64_t op, const uint8_t *spec, size_t spec_len,
                                           uint8_t *out, size_t out_len);
+
+/* Writes the prefixes of the names that a list of specs asks the remote for: each
+ * that vasigmon_expand_prefixes writes for some spec, exactly once, in an order
+ * that is left open. */
+vasigmon_written vasigmon_group_prefixes(uint64_t op, const uint8_t *specs, size_t specs_len,
+                                         uint8_t *out, size_t out_len);
+
+/* Writes what a list of specs maps a list of items to, as rows. A row is: the
+ * item's number plus 1, or 0 for none; the spec's number; the kind of the source, 0
+ * for a name and 1 for an object id; the source's length and bytes, of an object id
+ * its forty digits in lower case; then 0 for no destination, else its length plus 1
+ * and its bytes.
+ *
+ * First comes a row for each spec whose source is an object id, in the order of the
+ * specs, whatever the items; then rows by spec, and then by item. A row's source is
+ * the item's name. Negative specs give no rows, and take away those of names that
+ * they match. Rows may repeat others. */
+vasigmon_written vasigmon_match_lhs(uint64_t op, const uint8_t *specs, size_t specs_len,
+                                    const uint8_t *items, size_t items_len,
+                                    uint8_t *out, size_t out_len);
+
+/* Writes what a list of specs maps a list of items back to, as rows, by spec and
+ * then by item. A spec's destination is matched literally or as a pattern, and its
+ * source is given as the spec has it, what the star stands for put in. A row's kind
+ * is always 0, and its destination is the item's name. Negative specs take away rows
+ * by their source. */
+vasigmon_written vasigmon_match_rhs(uint64_t op, const uint8_t *specs, size_t specs_len,
+                                    const uint8_t *items, size_t items_len,
+                                    uint8_t *out, size_t out_len);
+
+/* The lists that a part may be of. */
+enum vasigmon_list {
+    VASIGMON_ITEM_LIST = 0,
+    VASIGMON_SPEC_LIST = 1
+};
+
+/* A part of one of two lists: `length` bytes from `start` on. */
+typedef struct vasigmon_part {
+    uint64_t refusal;
+    uint64_t record;                     /* as in vasigmon_written; 0 beside 16 too */
+    uint64_t list;                       /* enum vasigmon_list */
+    uint64_t start;
+    uint64_t length;
+} vasigmon_part;
+
+/* Answers where the source of a forward row stands, by the row's first two numbers.
+ * With `item_field` 0 it is the spec's source, an object id as the spec spells it.
+ * With a higher field it is that item's name, whichever spec of the list is given.
+ * Numbers outside the lists give 16, and so does field 0 where that spec's source is
+ * no object id. */
+vasigmon_part vasigmon_source(uint64_t op, const uint8_t *specs, size_t specs_len,
+                              const uint8_t *items, size_t items_len,
+                              uint64_t item_field, uint64_t spec);
 
 #ifdef __cplusplus
 }

@@ -111,6 +111,108 @@ static void writing(void)
     expect(memcmp(out, list, strlen(list)) == 0, "the list of the six");
 }
 
+/* Whether a call wrote just these bytes to `out`. */
+static int wrote(vasigmon_written written, const uint8_t *out, const char *text, size_t length)
+{
+    return written.refusal == VASIGMON_ACCEPTED && written.record == 0 && written.length == length
+        && memcmp(out, text, length) == 0;
+}
+
+/* Whether a call was refused like this. */
+static int refused(vasigmon_written written, uint64_t refusal, uint64_t record)
+{
+    return written.refusal == refusal && written.record == record && written.length == 0;
+}
+
+/* Three specs, the second negative, the third an object id; two items. */
+static const char SPECS[] = "\40+refs/heads/*:refs/remotes/hub/*"
+                            "\20^refs/heads/tmp*"
+                            "\53+0123456789ABCDEF0123456789abcdef01234567:x";
+static const char ITEMS[] = "\20refs/heads/codes\17refs/heads/tmp1";
+#define SPECS_LEN (sizeof SPECS - 1)
+#define ITEMS_LEN (sizeof ITEMS - 1)
+
+static void listings(void)
+{
+    static const char rows[] = "\0\2\1\50" "0123456789abcdef0123456789abcdef01234567" "\15refs/heads/x"
+                               "\1\0\0\20refs/heads/codes\27refs/remotes/hub/codes";
+    static const char back[] = "\1\0\0\14refs/heads/a\23refs/remotes/hub/a";
+    static const char names[] = "\22refs/remotes/hub/a\25refs/remotes/hub/tmp1";
+    size_t need = sizeof rows - 1;
+    uint8_t out[256];
+    vasigmon_written written;
+
+    memset(out, '#', sizeof out);
+    written = vasigmon_match_lhs(VASIGMON_FETCH, bytes(SPECS), SPECS_LEN, bytes(ITEMS), ITEMS_LEN, out, need - 1);
+    expect(written.refusal == VASIGMON_BUFFER_TOO_SHORT && written.record == 0, "a listing's short buffer");
+    expect(written.length >= need && written.length <= 2 * need, "its length beside 17");
+    expect(out[0] == '#' && out[need - 2] == '#', "no row is written on refusal");
+
+    written = vasigmon_match_lhs(VASIGMON_FETCH, bytes(SPECS), SPECS_LEN, bytes(ITEMS), ITEMS_LEN, out, sizeof out);
+    expect(wrote(written, out, rows, need), "the forward listing");
+    expect(out[need] == '#', "no byte beyond the forward listing");
+
+    written = vasigmon_match_rhs(VASIGMON_FETCH, bytes(SPECS), SPECS_LEN, bytes(names), sizeof names - 1,
+                                 out, sizeof out);
+    expect(wrote(written, out, back, sizeof back - 1), "the reverse listing");
+
+    written = vasigmon_match_lhs(VASIGMON_FETCH, bytes(""), 0, bytes(""), 0, out, 0);
+    expect(wrote(written, out, "", 0), "no specs, no items, no buffer");
+}
+
+static void group_prefixes(void)
+{
+    uint8_t out[64];
+    vasigmon_written written;
+
+    written = vasigmon_group_prefixes(VASIGMON_FETCH, bytes(SPECS), SPECS_LEN, out, sizeof out);
+    expect(wrote(written, out, "\13refs/heads/", 12), "the prefixes of a group");
+    written = vasigmon_group_prefixes(VASIGMON_FETCH, bytes("\4HEAD\0\1@"), 8, out, sizeof out);
+    expect(wrote(written, out, "\4HEAD", 5), "a prefix that three specs yield comes once");
+}
+
+/* The first refusal wins, and names its record. */
+static void list_refusals(void)
+{
+    static uint8_t zeros[65536];
+    uint8_t out[16];
+
+    expect(refused(vasigmon_match_lhs(2, bytes("\5"), 1, bytes("\5"), 1, out, sizeof out),
+                   VASIGMON_NO_SUCH_OPERATION, 0), "operation 2 before the lists");
+    expect(refused(vasigmon_match_lhs(VASIGMON_FETCH, bytes("\1a\2a*"), 5, zeros, 65536, out, sizeof out),
+                   VASIGMON_ONE_STAR_OF_TWO, 1), "a bad spec before an item list that is too long");
+    expect(refused(vasigmon_match_rhs(VASIGMON_FETCH, bytes("\1a"), 2, zeros, 65536, out, sizeof out),
+                   VASIGMON_LIST_TOO_LONG, 0), "an item list of 65,536 bytes");
+    expect(refused(vasigmon_match_rhs(VASIGMON_FETCH, bytes("\1a"), 2, zeros, 65535, out, sizeof out),
+                   VASIGMON_TOO_MANY_RECORDS, 1024), "1,025 items");
+    expect(refused(vasigmon_group_prefixes(VASIGMON_FETCH, zeros, 257, out, sizeof out),
+                   VASIGMON_TOO_MANY_RECORDS, 256), "257 specs");
+    expect(refused(vasigmon_group_prefixes(VASIGMON_FETCH, bytes("\1a\200\0"), 4, out, sizeof out),
+                   VASIGMON_MALFORMED, 1), "a length that is not in its shortest form");
+}
+
+static void views(void)
+{
+    static const vasigmon_part outside = { VASIGMON_OUTSIDE_THE_LISTS, 0, 0, 0, 0 };
+    vasigmon_part part;
+
+    part = vasigmon_source(VASIGMON_FETCH, bytes(SPECS), SPECS_LEN, bytes(ITEMS), ITEMS_LEN, 2, 0);
+    expect(part.refusal == VASIGMON_ACCEPTED && part.list == VASIGMON_ITEM_LIST, "the view of an item");
+    expect(part.length == 15 && memcmp(ITEMS + part.start, "refs/heads/tmp1", 15) == 0, "it is the item's name");
+
+    part = vasigmon_source(VASIGMON_FETCH, bytes(SPECS), SPECS_LEN, bytes(ITEMS), ITEMS_LEN, 0, 2);
+    expect(part.refusal == VASIGMON_ACCEPTED && part.list == VASIGMON_SPEC_LIST, "the view of an object id");
+    expect(part.length == 40 && memcmp(SPECS + part.start, "0123456789ABCDEF", 16) == 0,
+           "it is as the spec spells it");
+
+    part = vasigmon_source(VASIGMON_FETCH, bytes(SPECS), SPECS_LEN, bytes(ITEMS), ITEMS_LEN, 0, 0);
+    expect(memcmp(&part, &outside, sizeof part) == 0, "field 0 of a spec whose source is no object id");
+    part = vasigmon_source(VASIGMON_FETCH, bytes(SPECS), SPECS_LEN, bytes(ITEMS), ITEMS_LEN, 3, 0);
+    expect(memcmp(&part, &outside, sizeof part) == 0, "a field above the items");
+    part = vasigmon_source(VASIGMON_FETCH, bytes(SPECS), SPECS_LEN, bytes(ITEMS), ITEMS_LEN, 1, 3);
+    expect(memcmp(&part, &outside, sizeof part) == 0, "a spec that is not in the list");
+}
+
 int main(void)
 {
     reading();
@@ -118,6 +220,10 @@ int main(void)
     instructions();
     prefixes();
     writing();
+    listings();
+    group_prefixes();
+    list_refusals();
+    views();
     if (failures == 0) {
         printf("c test: passed\n");
     }

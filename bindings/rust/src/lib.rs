@@ -4,6 +4,9 @@
 //! that names a source and a destination of references; [`parse`] reads it for
 //! fetch or push, and the other functions answer what it asks for.
 //!
+//! A list of specs maps a list of names ([`match_lhs`], and back [`match_rhs`]):
+//! [`list`] makes such lists and reads what they are mapped to.
+//!
 //! ```
 //! use vasigmon::{Instruction, Operation};
 //!
@@ -18,12 +21,14 @@
 
 #![deny(unsafe_code)]
 
-mod list;
+mod groups;
+pub mod list;
 #[allow(unsafe_code)]
 pub mod raw;
 mod refusal;
 
-pub use refusal::Refusal;
+pub use groups::{Part, group_prefixes, match_lhs, match_rhs, source};
+pub use refusal::{ListRefusal, Refusal};
 
 /// What a spec is read for.
 #[derive(Clone, Copy, Debug, PartialEq, Eq, Hash)]
@@ -186,7 +191,7 @@ pub fn prefix(op: Operation, spec: &[u8]) -> Result<Option<&[u8]>, Refusal> {
 /// # Ok::<(), vasigmon::Refusal>(())
 /// ```
 pub fn expand_prefixes(op: Operation, spec: &[u8]) -> Result<Vec<Vec<u8>>, Refusal> {
-    let list = written(|out| raw::expand_prefixes(op as u64, spec, out))?;
+    let list = written(|out| raw::expand_prefixes(op as u64, spec, out)).map_err(refused)?;
     Ok(list::records(&list).map(<[u8]>::to_vec).collect())
 }
 
@@ -200,16 +205,22 @@ pub fn expand_prefixes(op: Operation, spec: &[u8]) -> Result<Vec<Vec<u8>>, Refus
 /// # Ok::<(), vasigmon::Refusal>(())
 /// ```
 pub fn to_bstring(op: Operation, spec: &[u8]) -> Result<Vec<u8>, Refusal> {
-    written(|out| raw::to_bstring(op as u64, spec, out))
+    written(|out| raw::to_bstring(op as u64, spec, out)).map_err(refused)
 }
 
 /// The refusal with that number as an error, or nothing for 0.
 fn accepted(number: u64) -> Result<(), Refusal> {
-    match number {
-        0 => Ok(()),
-        _ => Err(Refusal::from_number(number)
-            .unwrap_or_else(|| unreachable!("no refusal has the number {number}"))),
-    }
+    if number == 0 { Ok(()) } else { Err(refusal(number)) }
+}
+
+/// The refusal with that number, which an answer holds.
+fn refusal(number: u64) -> Refusal {
+    Refusal::from_number(number).unwrap_or_else(|| unreachable!("no refusal has the number {number}"))
+}
+
+/// The refusal of a call on one spec.
+fn refused(answer: raw::Written) -> Refusal {
+    refusal(answer.refusal)
 }
 
 /// The text of a side.
@@ -222,16 +233,18 @@ fn side(spec: &[u8], side: raw::Side) -> Option<&[u8]> {
     }
 }
 
-/// The bytes that a call writes: lends a buffer, and where that is too short,
-/// one of the length that the call asks for.
-fn written(call: impl Fn(&mut [u8]) -> raw::Written) -> Result<Vec<u8>, Refusal> {
+/// The bytes that a call writes, or the answer that refuses it: lends a buffer, and
+/// where that is too short, one of the length that the call asks for.
+fn written(call: impl Fn(&mut [u8]) -> raw::Written) -> Result<Vec<u8>, raw::Written> {
     let mut out = vec![0; 256];
     let mut answer = call(&mut out);
     if answer.refusal == Refusal::BufferTooShort.number() {
         out.resize(answer.length as usize, 0);
         answer = call(&mut out);
     }
-    accepted(answer.refusal)?;
+    if answer.refusal != 0 {
+        return Err(answer);
+    }
     out.truncate(answer.length as usize);
     Ok(out)
 }

@@ -1,50 +1,174 @@
-/// Walks a list of records: for each a length, in groups of seven bits, lowest
-/// first, the top bit set while more follow, then the bytes.
-pub(crate) struct Records<'a> {
-    rest: &'a [u8],
+//! The byte lists of the interface: made of texts, and read.
+//!
+//! A number is written in groups of seven bits, lowest first, the top bit set
+//! while more follow. A list of specs, items or prefixes holds for each record
+//! its length and its bytes. What is read here is what the archive wrote: the
+//! iterators panic at a list that is not well formed.
+//!
+//! ```
+//! use vasigmon::list;
+//!
+//! let specs = list::of([b"main".as_slice(), b"^tmp"]);
+//! assert_eq!(specs, b"\x04main\x04^tmp");
+//! assert_eq!(list::records(&specs).collect::<Vec<_>>(), [b"main".as_slice(), b"^tmp"]);
+//! ```
+
+/// The list of these texts, as many as there are and as long as they are.
+pub fn of<T: AsRef<[u8]>>(texts: impl IntoIterator<Item = T>) -> Vec<u8> {
+    let mut list = Vec::new();
+    for text in texts {
+        push(&mut list, text.as_ref());
+    }
+    list
 }
 
-/// The records of a list that the archive wrote.
-pub(crate) fn records(list: &[u8]) -> Records<'_> {
-    Records { rest: list }
+/// Appends a record to a list.
+pub fn push(list: &mut Vec<u8>, text: &[u8]) {
+    let mut length = text.len();
+    while length >= 128 {
+        list.push((length % 128) as u8 | 0x80);
+        length /= 128;
+    }
+    list.push(length as u8);
+    list.extend(text);
+}
+
+/// Walks the records of a list.
+#[derive(Clone, Debug)]
+pub struct Records<'a>(Reader<'a>);
+
+/// The records of a list of specs, items or prefixes.
+pub fn records(list: &[u8]) -> Records<'_> {
+    Records(Reader { rest: list })
 }
 
 impl<'a> Iterator for Records<'a> {
     type Item = &'a [u8];
 
     fn next(&mut self) -> Option<&'a [u8]> {
-        if self.rest.is_empty() {
-            return None;
-        }
-        let mut length = 0;
+        self.0.more().then(|| self.0.text())
+    }
+}
+
+/// A row of a listing: what one spec maps one source to.
+#[derive(Clone, Copy, Debug, PartialEq, Eq, Hash)]
+pub struct Row<'a> {
+    /// The item that matched; none for an object id, which matches no item.
+    pub item: Option<usize>,
+    /// The spec, counted from 0.
+    pub spec: usize,
+    /// What is mapped.
+    pub source: Source<'a>,
+    /// What it is mapped to, if anything.
+    pub destination: Option<&'a [u8]>,
+}
+
+/// What a row maps.
+#[derive(Clone, Copy, Debug, PartialEq, Eq, Hash)]
+pub enum Source<'a> {
+    /// The name of a reference.
+    Name(&'a [u8]),
+    /// An object id: forty hexadecimal digits in lower case.
+    Object(&'a [u8]),
+}
+
+/// Walks the rows of a listing.
+#[derive(Clone, Debug)]
+pub struct Rows<'a>(Reader<'a>);
+
+/// The rows of a listing.
+///
+/// ```
+/// use vasigmon::list::{self, Source};
+///
+/// let row = list::rows(b"\x01\x00\x00\x01a\x0drefs/heads/b").next().unwrap();
+/// assert_eq!((row.item, row.spec, row.source), (Some(0), 0, Source::Name(b"a")));
+/// assert_eq!(row.destination, Some(b"refs/heads/b".as_slice()));
+/// ```
+pub fn rows(listing: &[u8]) -> Rows<'_> {
+    Rows(Reader { rest: listing })
+}
+
+impl<'a> Iterator for Rows<'a> {
+    type Item = Row<'a>;
+
+    fn next(&mut self) -> Option<Row<'a>> {
+        let rest = &mut self.0;
+        rest.more().then(|| Row {
+            item: rest.number().checked_sub(1),
+            spec: rest.number(),
+            source: match rest.number() {
+                0 => Source::Name(rest.text()),
+                1 => Source::Object(rest.text()),
+                kind => panic!("no source has the kind {kind}"),
+            },
+            destination: rest.number().checked_sub(1).map(|length| rest.bytes(length)),
+        })
+    }
+}
+
+/// Reads at the front of a list.
+#[derive(Clone, Debug)]
+struct Reader<'a> {
+    rest: &'a [u8],
+}
+
+impl<'a> Reader<'a> {
+    fn more(&self) -> bool {
+        !self.rest.is_empty()
+    }
+
+    fn number(&mut self) -> usize {
+        let mut number = 0;
         for group in 0.. {
-            let (byte, rest) = self.rest.split_first().expect("a length ends before its list does");
+            let (byte, rest) = self.rest.split_first().expect("a number ends before its list does");
             self.rest = rest;
-            length += usize::from(byte & 0x7f) << (7 * group);
+            number += usize::from(byte & 0x7f) << (7 * group);
             if byte & 0x80 == 0 {
                 break;
             }
         }
-        let (record, rest) = self.rest.split_at(length);
+        number
+    }
+
+    fn bytes(&mut self, length: usize) -> &'a [u8] {
+        let (bytes, rest) = self.rest.split_at(length);
         self.rest = rest;
-        Some(record)
+        bytes
+    }
+
+    fn text(&mut self) -> &'a [u8] {
+        let length = self.number();
+        self.bytes(length)
     }
 }
 
 #[cfg(test)]
 mod tests {
-    use super::records;
+    use super::*;
 
     #[test]
-    fn lengths_of_one_and_two_groups() {
-        let long = [b'x'; 300];
-        let list = [b"\x01a\x00".as_slice(), b"\xac\x02", &long].concat();
-        let found: Vec<_> = records(&list).collect();
-        assert_eq!(found, [b"a".as_slice(), b"", &long]);
+    fn lengths_of_one_two_and_three_groups() {
+        let texts = [0, 1, 127, 128, 300, 16_383, 16_384].map(|length| vec![b'x'; length]);
+        let list = of(&texts);
+        assert_eq!(list[..2], *b"\x00\x01");
+        assert_eq!(list[131..133], *b"\x80\x01");
+        assert!(records(&list).eq(&texts));
     }
 
     #[test]
     fn an_empty_list_has_no_records() {
+        assert_eq!(of([b""; 0]), b"");
         assert_eq!(records(b"").count(), 0);
+        assert_eq!(rows(b"").count(), 0);
+    }
+
+    #[test]
+    fn rows_with_and_without_item_and_destination() {
+        let listing = b"\x00\x81\x01\x01\x02ab\x00\x82\x01\x00\x00\x00\x01";
+        let found: Vec<_> = rows(listing).collect();
+        let object = Row { item: None, spec: 129, source: Source::Object(b"ab"), destination: None };
+        let empty = Row { item: Some(129), spec: 0, source: Source::Name(b""), destination: Some(b"") };
+        assert_eq!(found, [object, empty]);
     }
 }

@@ -63,14 +63,31 @@ pub struct Prefix {
 pub struct Written {
     /// 0, or why the call is refused; nothing is written then.
     pub refusal: u64,
-    /// The number of the refused record of a list; 0 in a call on one spec.
+    /// The number of the refused record of a list; 0 in a call on one spec, and
+    /// where the refusal has none.
     pub record: u64,
     /// The bytes written; beside refusal 17, the length of a buffer that will do.
     pub length: u64,
 }
 
+/// The answer of [`source`]: a part of one of the two lists.
+#[repr(C)]
+#[derive(Clone, Copy, Debug, Default, PartialEq, Eq)]
+pub struct Part {
+    /// 0, or why the call is refused.
+    pub refusal: u64,
+    /// The number of the refused record of a list; 0 where the refusal has none.
+    pub record: u64,
+    /// 0 for a part of the item list, 1 for a part of the spec list.
+    pub list: u64,
+    /// Where the part starts in that list.
+    pub start: u64,
+    /// How many bytes it has.
+    pub length: u64,
+}
+
 mod entries {
-    use super::{Instruction, Prefix, Spec, Written};
+    use super::{Instruction, Part, Prefix, Spec, Written};
 
     unsafe extern "C" {
         pub fn vasigmon_parse(op: u64, spec: *const u8, spec_len: usize) -> Spec;
@@ -90,13 +107,47 @@ mod entries {
             out: *mut u8,
             out_len: usize,
         ) -> Written;
+        pub fn vasigmon_group_prefixes(
+            op: u64,
+            specs: *const u8,
+            specs_len: usize,
+            out: *mut u8,
+            out_len: usize,
+        ) -> Written;
+        pub fn vasigmon_match_lhs(
+            op: u64,
+            specs: *const u8,
+            specs_len: usize,
+            items: *const u8,
+            items_len: usize,
+            out: *mut u8,
+            out_len: usize,
+        ) -> Written;
+        pub fn vasigmon_match_rhs(
+            op: u64,
+            specs: *const u8,
+            specs_len: usize,
+            items: *const u8,
+            items_len: usize,
+            out: *mut u8,
+            out_len: usize,
+        ) -> Written;
+        pub fn vasigmon_source(
+            op: u64,
+            specs: *const u8,
+            specs_len: usize,
+            items: *const u8,
+            items_len: usize,
+            item_field: u64,
+            spec: u64,
+        ) -> Part;
     }
 }
 
 // Why each call below is safe: a slice's pointer is never null, also where the
 // slice is empty, and it is valid for the length that is passed beside it. The
 // entries are proved to stay within both, keep no pointer, and take any bytes
-// and any operation. A `&mut` buffer does not overlap the spec.
+// and any operation. A `&mut` buffer overlaps nothing else that is lent.
 
 /// Reads a spec.
 pub fn parse(op: u64, spec: &[u8]) -> Spec {
@@ -121,4 +172,56 @@ pub fn expand_prefixes(op: u64, spec: &[u8], out: &mut [u8]) -> Written {
 /// Writes the canonical text of a spec to `out`.
 pub fn to_bstring(op: u64, spec: &[u8], out: &mut [u8]) -> Written {
     unsafe { entries::vasigmon_to_bstring(op, spec.as_ptr(), spec.len(), out.as_mut_ptr(), out.len()) }
+}
+
+/// Writes the prefixes of all specs of a list to `out`, each once, as a list of
+/// lengths and bytes.
+pub fn group_prefixes(op: u64, specs: &[u8], out: &mut [u8]) -> Written {
+    unsafe { entries::vasigmon_group_prefixes(op, specs.as_ptr(), specs.len(), out.as_mut_ptr(), out.len()) }
+}
+
+/// Writes the forward listing to `out`, as rows.
+pub fn match_lhs(op: u64, specs: &[u8], items: &[u8], out: &mut [u8]) -> Written {
+    unsafe {
+        entries::vasigmon_match_lhs(
+            op,
+            specs.as_ptr(),
+            specs.len(),
+            items.as_ptr(),
+            items.len(),
+            out.as_mut_ptr(),
+            out.len(),
+        )
+    }
+}
+
+/// Writes the reverse listing to `out`, as rows.
+pub fn match_rhs(op: u64, specs: &[u8], items: &[u8], out: &mut [u8]) -> Written {
+    unsafe {
+        entries::vasigmon_match_rhs(
+            op,
+            specs.as_ptr(),
+            specs.len(),
+            items.as_ptr(),
+            items.len(),
+            out.as_mut_ptr(),
+            out.len(),
+        )
+    }
+}
+
+/// Answers where the source of a forward row stands. `item_field` is the row's:
+/// 0 for an object id, else the item's number plus 1.
+pub fn source(op: u64, specs: &[u8], items: &[u8], item_field: u64, spec: u64) -> Part {
+    unsafe {
+        entries::vasigmon_source(
+            op,
+            specs.as_ptr(),
+            specs.len(),
+            items.as_ptr(),
+            items.len(),
+            item_field,
+            spec,
+        )
+    }
 }

@@ -26,6 +26,16 @@ pub enum Refusal {
     NegativeEmpty = 10,
     /// The source after `^` is forty or more bytes, all hexadecimal digits.
     NegativeObject = 11,
+    /// The list is above its limit of bytes.
+    ListTooLong = 12,
+    /// The record is not well formed within its list.
+    Malformed = 13,
+    /// The record is beyond 256 specs or 1,024 items.
+    TooManyRecords = 14,
+    /// The item's name is above 4,096 bytes.
+    NameTooLong = 15,
+    /// A number is outside the lists, or no object id stands where one must.
+    OutsideTheLists = 16,
     /// The output buffer is not long enough for the whole answer.
     BufferTooShort = 17,
     /// The operation is neither 0 nor 1.
@@ -47,6 +57,11 @@ impl Refusal {
             9 => Refusal::OneStarOfTwo,
             10 => Refusal::NegativeEmpty,
             11 => Refusal::NegativeObject,
+            12 => Refusal::ListTooLong,
+            13 => Refusal::Malformed,
+            14 => Refusal::TooManyRecords,
+            15 => Refusal::NameTooLong,
+            16 => Refusal::OutsideTheLists,
             17 => Refusal::BufferTooShort,
             18 => Refusal::NoSuchOperation,
             _ => return None,
@@ -73,6 +88,13 @@ impl fmt::Display for Refusal {
             Refusal::OneStarOfTwo => "one side has a star and the other has none",
             Refusal::NegativeEmpty => "no source follows '^'",
             Refusal::NegativeObject => "the source after '^' is forty or more bytes, all hexadecimal digits",
+            Refusal::ListTooLong => "the list is above its limit of bytes",
+            Refusal::Malformed => "the record is not well formed within its list",
+            Refusal::TooManyRecords => "the record is beyond 256 specs or 1,024 items",
+            Refusal::NameTooLong => "the item's name is above 4,096 bytes",
+            Refusal::OutsideTheLists => {
+                "a number is outside the lists, or no object id stands where one must"
+            }
             Refusal::BufferTooShort => "the output buffer is not long enough for the whole answer",
             Refusal::NoSuchOperation => "the operation is neither 0 nor 1",
         })
@@ -80,3 +102,25 @@ impl fmt::Display for Refusal {
 }
 
 impl std::error::Error for Refusal {}
+
+/// Why a call on lists is refused, and at which record.
+#[derive(Clone, Copy, Debug, PartialEq, Eq, Hash)]
+pub struct ListRefusal {
+    /// The first question that was answered by no.
+    pub refusal: Refusal,
+    /// The record that it was asked of, counted from 0: of the spec list, or of the
+    /// second list where that is the one refused. Questions about a whole list, a
+    /// buffer, the operation or the source view's numbers have none.
+    pub record: Option<usize>,
+}
+
+impl fmt::Display for ListRefusal {
+    fn fmt(&self, f: &mut fmt::Formatter<'_>) -> fmt::Result {
+        match self.record {
+            Some(record) => write!(f, "record {record}: {}", self.refusal),
+            None => self.refusal.fmt(f),
+        }
+    }
+}
+
+impl std::error::Error for ListRefusal {}

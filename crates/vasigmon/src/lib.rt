@@ -2,10 +2,13 @@
 // answer as plain numbers; no entry asks anything of its caller.
 ghost use mathlib.Core.Path.{_≡_};
 ghost use Rattle.meaning.specs.Buffers.{MeetsOne};
-ghost use Rattle.meaning.specs.Entries.{toBstring, expanded};
+ghost use Rattle.meaning.specs.Entries.{toBstring, expanded, matchLhs, matchRhs};
+ghost use Rattle.meaning.specs.View.{sourceView};
 ghost use Rattle.parse.specs.Places.{parsed};
 ghost use Rattle.refspec.specs.Instructions.{instructed};
 ghost use Rattle.refspec.specs.Prefixes.{prefixed};
+ghost use Rattle.prefixes.specs.Group.{MeetsPrefixes};
+ghost use Rattle.view.specs.Places.{partOf};
 ghost use Rattle.answers.specs.Numbers.{specAnswer, instructionAnswer, prefixAnswer};
 use answers::InstructionAnswer;
 use answers::PrefixAnswer;
@@ -13,9 +16,14 @@ use answers::SpecAnswer;
 use answers::instruction_answer;
 use answers::prefix_answer;
 use answers::spec_answer;
+use match_group::match_lhs;
+use match_group::match_rhs;
 use parse::parse;
+use prefixes::group_prefixes;
 use refspec::spec::instruction;
 use refspec::spec::prefix;
+use view::Part;
+use view::source;
 use write::canonical::to_bstring;
 use write::prefixes::expand_prefixes;
 use write::written::Written;
@@ -58,4 +66,42 @@ pub extern "C" fn vasigmon_to_bstring(op: u64, spec: &[u8], out: &mut [u8]) -> W
     ensures { λ w. ⌜ MeetsOne (toBstring op (now (spec .entry))) (now (out .entry)) (now (out .exit)) (w .refusal) (w .record) (w .length) ⌝ }
 {
     to_bstring(op, spec, out)
+}
+
+// The prefixes that the specs of a list yield, each once, as a prefix list.
+#[no_mangle]
+pub extern "C" fn vasigmon_group_prefixes(op: u64, specs: &[u8], out: &mut [u8]) -> Written
+    ensures { λ w. ⌜ MeetsPrefixes op (now (specs .entry)) (now (out .entry)) (now (out .exit)) (w .refusal) (w .record) (w .length) ⌝ }
+{
+    group_prefixes(op, specs, out)
+}
+
+// The forward listing of the items under the specs, as a row list.
+#[no_mangle]
+pub extern "C" fn vasigmon_match_lhs(op: u64, specs: &[u8], items: &[u8], out: &mut [u8]) -> Written
+    ensures { λ w. ⌜ MeetsOne (matchLhs op (now (specs .entry)) (now (items .entry))) (now (out .entry)) (now (out .exit)) (w .refusal) (w .record) (w .length) ⌝ }
+{
+    match_lhs(op, specs, items, out)
+}
+
+// The reverse listing of the items under the specs, as a row list.
+#[no_mangle]
+pub extern "C" fn vasigmon_match_rhs(op: u64, specs: &[u8], items: &[u8], out: &mut [u8]) -> Written
+    ensures { λ w. ⌜ MeetsOne (matchRhs op (now (specs .entry)) (now (items .entry))) (now (out .entry)) (now (out .exit)) (w .refusal) (w .record) (w .length) ⌝ }
+{
+    match_rhs(op, specs, items, out)
+}
+
+// The source view of a forward row's item field and spec number, as a part of one of the two lists.
+#[no_mangle]
+pub extern "C" fn vasigmon_source(
+    op: u64,
+    specs: &[u8],
+    items: &[u8],
+    item_field: u64,
+    spec: u64,
+) -> Part
+    ensures { λ r. ⌜ r ≡ partOf (sourceView op (now (specs .entry)) (now (items .entry)) «item_field» spec) ⌝ }
+{
+    source(op, specs, items, item_field, spec)
 }

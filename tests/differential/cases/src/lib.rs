@@ -1,11 +1,13 @@
 //! The texts that the runs are made of: all short ones over some bytes, random
 //! ones grown from telling pieces, damaged copies of good ones, and long ones,
-//! among them those around the limit of 4,096 bytes. All are fixed by a seed and
-//! a number.
+//! among them those around the limit of 4,096 bytes; and groups of specs and items.
+//! All are fixed by a seed and a number.
 
+mod groups;
 mod random;
 mod specs;
 
+pub use groups::{Group, group, group_of};
 pub use random::Random;
 pub use specs::{FAMILIES, around_the_limit, damaged, good, grown, of_length};
 

@@ -1,5 +1,10 @@
-//! What gix-refspec answers about one spec, in the numbers and places of the C
-//! interface, so that the two can be compared field by field.
+//! What gix-refspec answers, about one spec in the numbers and places of the C
+//! interface, about a group of specs as rows, so that the two can be compared field
+//! by field.
+
+mod groups;
+
+pub use groups::{Group, Row};
 
 use bstr::BStr;
 use gix_refspec::{
@@ -38,11 +43,14 @@ pub struct Answer {
 /// The crate's answers for operation 0 (fetch) or 1 (push), or the number of
 /// the question that refuses the spec.
 pub fn ask(op: u64, spec: &[u8]) -> Result<Answer, u64> {
-    let operation = if op == 0 { Operation::Fetch } else { Operation::Push };
-    match gix_refspec::parse(BStr::new(spec), operation) {
+    match gix_refspec::parse(BStr::new(spec), operation(op)) {
         Ok(read) => Ok(answer(spec, read)),
         Err(error) => Err(refusal(spec, &error)),
     }
+}
+
+fn operation(op: u64) -> Operation {
+    if op == 0 { Operation::Fetch } else { Operation::Push }
 }
 
 fn answer(spec: &[u8], read: RefSpecRef<'_>) -> Answer {

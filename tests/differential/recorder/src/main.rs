@@ -1,11 +1,13 @@
 //! Records what gix-refspec answers, so that the answers can be replayed where
 //! neither Rust nor the crate is at hand. ../README.md has the format.
 
+mod groups;
+
 use cases::{Random, SPEC_LIMIT, around_the_limit, good, grown, short_text, short_texts};
 use oracle::{Answer, Side};
 use std::{collections::BTreeSet, fs, process::ExitCode};
 
-const USAGE: &str = "usage: recorder [--check] FILE";
+const USAGE: &str = "usage: recorder [--groups] [--check] FILE";
 
 /// All texts of up to two of these bytes are recorded.
 const TELLING: &[u8] = b"a*:+^/.@{~]H";
@@ -23,37 +25,41 @@ const LONG: [u64; 5] = [24, 4, 17, 31, 8];
 
 fn main() -> ExitCode {
     let words: Vec<String> = std::env::args().skip(1).collect();
-    match words.iter().map(String::as_str).collect::<Vec<_>>()[..] {
-        ["--check", file] => {
-            let same = fs::read(file).is_ok_and(|bytes| bytes == recorded());
-            println!("recorder: {file} {} what the crate answers", if same { "is" } else { "is not" });
-            if same { ExitCode::SUCCESS } else { ExitCode::FAILURE }
-        }
-        [file] if !file.starts_with('-') => {
-            let bytes = recorded();
-            fs::write(file, &bytes).expect("the file can be written");
-            println!("recorder: {} records, {} bytes", 2 * specs().len(), bytes.len());
-            ExitCode::SUCCESS
-        }
-        _ => {
-            eprintln!("{USAGE}");
-            ExitCode::from(2)
-        }
+    let mut words: Vec<&str> = words.iter().map(String::as_str).collect();
+    let mut asked = |word| words.first() == Some(&word) && words.remove(0) == word;
+    let (groups, check) = (asked("--groups"), asked("--check"));
+    let ([file], false) = (&words[..], words.iter().any(|word| word.starts_with('-'))) else {
+        eprintln!("{USAGE}");
+        return ExitCode::from(2);
+    };
+    let records = if groups { groups::records() } else { records() };
+    let bytes = list(&records);
+    if check {
+        let same = fs::read(file).is_ok_and(|found| found == bytes);
+        println!("recorder: {file} {} what the crate answers", if same { "is" } else { "is not" });
+        return if same { ExitCode::SUCCESS } else { ExitCode::FAILURE };
     }
+    fs::write(file, &bytes).expect("the file can be written");
+    println!("recorder: {} records, {} bytes", records.len(), bytes.len());
+    ExitCode::SUCCESS
 }
 
-/// The records of all specs, for fetch and for push, each after its length in four bytes, the lowest first.
-fn recorded() -> Vec<u8> {
+/// Records one after another, each after its length in four bytes, the lowest first.
+fn list(records: &[Vec<u8>]) -> Vec<u8> {
     let mut out = Vec::new();
-    for spec in specs() {
-        for op in [0, 1] {
-            let record = record(op, &spec, oracle::ask(op.into(), &spec));
-            assert!(record.len() <= RECORD_LIMIT, "a record fits the replay's buffer");
-            out.extend((record.len() as u32).to_le_bytes());
-            out.extend(record);
-        }
+    for record in records {
+        assert!(record.len() <= RECORD_LIMIT, "a record fits the replay's buffer");
+        out.extend((record.len() as u32).to_le_bytes());
+        out.extend(record);
     }
     out
+}
+
+/// The records of all specs, for fetch and for push.
+fn records() -> Vec<Vec<u8>> {
+    let specs = specs();
+    let both = |spec: &Vec<u8>| [0, 1].map(|op| record(op, spec, oracle::ask(op.into(), spec)));
+    specs.iter().flat_map(both).collect()
 }
 
 /// The specs, each once, in order of their length.
@@ -143,8 +149,8 @@ mod tests {
 
     #[test]
     fn the_file_is_small_and_has_some_thousands_of_records() {
-        assert!(recorded().len() < 600_000);
-        assert!(2 * specs().len() > 3_000);
+        assert!(list(&records()).len() < 600_000);
+        assert!(records().len() > 3_000);
         assert!(specs().iter().all(|spec| spec.len() < SPEC_LIMIT));
     }
 }

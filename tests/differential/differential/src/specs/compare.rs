@@ -1,18 +1,9 @@
 //! One comparison: the crate's answers against ours, for one operation and one spec.
 
-use crate::ours;
+use super::ours;
+use crate::{Fault, smaller::copies};
 use cases::{SPEC_LIMIT, short_text};
 use oracle::Answer;
-
-/// A wrong answer that is put in on purpose, to show that the comparison sees it.
-#[derive(Clone, Copy, PartialEq, Eq)]
-pub enum Fault {
-    None,
-    /// The crate's side: the force of each fetch that updates is flipped.
-    Oracle,
-    /// Our side: each list of prefixes loses its last one.
-    Ours,
-}
 
 /// How many shorter texts are tried in place of a differing one.
 const MOST_TRIED: u64 = 200_000;
@@ -64,7 +55,7 @@ impl Comparison {
         let differs = |copy: &Vec<u8>| self.run(op, copy).is_err();
         let mut spec = spec;
         loop {
-            let smaller = smaller_copies(&spec).find(differs);
+            let smaller = copies(&spec).find(differs);
             match smaller {
                 Some(copy) => spec = copy,
                 None => break,
@@ -77,21 +68,6 @@ impl Comparison {
             (0..MOST_TRIED).map(|n| short_text(&bytes, n)).take_while(|text| text.len() < spec.len());
         shorter.find(differs).unwrap_or(spec)
     }
-}
-
-/// Copies of a spec that are simpler: a run of bytes is left out, longer runs
-/// first, or one byte is an `a`.
-fn smaller_copies(spec: &[u8]) -> impl Iterator<Item = Vec<u8>> + '_ {
-    let runs = std::iter::successors(Some(spec.len()), |run| Some(run / 2)).take_while(|run| *run > 0);
-    let shorter = runs.flat_map(move |run| {
-        (0..=spec.len() - run).step_by(run).map(move |at| [&spec[..at], &spec[at + run..]].concat())
-    });
-    let plainer = (0..spec.len()).filter(|at| spec[*at] != b'a').map(|at| {
-        let mut copy = spec.to_vec();
-        copy[at] = b'a';
-        copy
-    });
-    shorter.chain(plainer)
 }
 
 /// The answers of both sides, or the fields of an accepted spec that differ.
