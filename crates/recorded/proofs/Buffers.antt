@@ -20,13 +20,13 @@ use Rattle.recorded.specs.Record.{sized, prefixesBytes}
 use Rattle.recorded.specs.Field.{Found}
 
 -- bytes that stand at a buffer's front
-record Front (b exit : Text) (size : ℕ) : Type 0 where
-  is : take size exit ≡ b
-  few : size ≤ length exit
+pub record Front (b exit : Text) (size : ℕ) : Type 0 where
+  pub is : take size exit ≡ b
+  pub few : size ≤ length exit
 
 -- what one text to write comes to
 module _ (b entry exit : Text) (refusal recordNumber size : ℕ) (m : MeetsOne (accepted (some b ∷ [])) entry exit refusal recordNumber size) (z : refusal ≡ 0) where
-  one : Front b exit size
+  pub one : Front b exit size
   one = go (leb (length b) (length entry)) refl
     where
       go : (l : Bool) → leb (length b) (length entry) ≡ l → Front b exit size

@@ -13,7 +13,7 @@ pub enum Next {
 }
 
 // A byte as a number.
-pub(crate) fn wide(b: u8) -> usize
+pub fn wide(b: u8) -> usize
     ensures { λ r. ⌜ (r ≡ b) × (r < 256) ⌝ }
 {
     b as usize
@@ -46,7 +46,7 @@ pub(crate) fn bytes_field(told: &[u8], at: usize, want: &[u8]) -> Next
 }
 
 // This text, its length before it.
-pub(crate) fn text_field(told: &[u8], at: usize, want: &[u8]) -> Next
+pub fn text_field(told: &[u8], at: usize, want: &[u8]) -> Next
     requires { ⌜ at ≤ length (now told) ⌝ }
     ensures { λ r. ⌜ Found (now (told .entry)) at (sized (now (want .entry))) r ⌝ }
 {

@@ -7,7 +7,7 @@ ghost use Rattle.meaning.specs.Spec.{readSpec};
 ghost use Rattle.recorded.specs.Record.{answerBytes, IsRecord};
 
 mod answer;
-mod field;
+pub mod field;
 mod list;
 
 use answer::answer_agrees;

@@ -3,7 +3,6 @@
 use crate::{SEED, text};
 use cases::{Random, group};
 use paper::{Group, Items, Row, list};
-use std::collections::BTreeSet;
 
 /// How many grown groups are recorded.
 const GROWN: usize = 400;
@@ -89,12 +88,22 @@ fn rows(op: u64, specs: &[u8], items: &[u8]) -> Option<(Vec<Row>, Vec<Row>)> {
 fn record(op: u64, specs: &[u8], items: &[u8]) -> Option<Vec<u8>> {
     let (rows, back) = rows(op, specs, items)?;
     let group = oracle::Group::read(op, Group::read(op, specs).ok()?.texts()).ok()?;
-    let prefixes: BTreeSet<Vec<u8>> = group.prefixes().into_iter().collect();
     let mut out = vec![op as u8];
-    for bytes in [specs, items, &Row::list(&rows), &Row::list(&back), &list(prefixes)] {
+    for bytes in [specs, items, &Row::list(&rows), &Row::list(&back), &list(once(group.prefixes()))] {
         text(&mut out, bytes);
     }
     Some(out)
+}
+
+/// The texts in first-seen order, each once.
+fn once(texts: Vec<Vec<u8>>) -> Vec<Vec<u8>> {
+    let mut seen = Vec::new();
+    for text in texts {
+        if !seen.contains(&text) {
+            seen.push(text);
+        }
+    }
+    seen
 }
 
 #[cfg(test)]
@@ -111,6 +120,8 @@ mod tests {
             expected.escape_ascii().to_string()
         );
         assert_eq!(record(0, &list([b"b", b"b"]), &list([b"b"])), None, "the crate removes a row");
+        let first_seen = record(0, &list([b"refs/b".as_slice(), b"refs/a", b"refs/b:x"]), b"").unwrap();
+        assert!(first_seen.ends_with(b"\x0e\x00\x06refs/b\x06refs/a"), "{}", first_seen.escape_ascii());
         assert_eq!(record(0, &list([b"a:@"]), b""), None);
     }
 

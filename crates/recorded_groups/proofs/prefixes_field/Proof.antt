@@ -1,0 +1,21 @@
+-- `prefixes_field` meets its contract: what was written into the buffer is a prefix list of the group. Assumes nothing.
+use Rattle.recorded_groups.proofs.Fields.{prefixes-found}
+use borrow.Author.Needs.{needs}
+use Rattle.recorded_groups.proofs.prefixes_field.Statement.{statement}
+use Rattle.recorded_groups.proofs.prefixes_field.Tie as tie
+
+group-prefixes-requires : tie.Need-group-prefixes-requires
+group-prefixes-requires c κs = search needs
+
+front-field-requires : tie.Need-front-field-requires
+front-field-requires c κs = search needs
+
+same-length : tie.Need-same-length
+same-length c = search needs
+
+returns : tie.Need-returns
+returns c = search prefixes-found
+
+pub prefixes-field-spec : {M : Type 1} → statement M
+prefixes-field-spec =
+    tie.close (tie.spec group-prefixes-requires front-field-requires same-length returns)

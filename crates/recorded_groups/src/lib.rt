@@ -1,0 +1,150 @@
+// A recorded answer to a group, held to ours, field by field. specs/GroupRecord.antt has the record's form.
+ghost use mathlib.Core.Path.{_≡_};
+ghost use mathlib.Core.Bool.{true};
+ghost use Prim.Native.Nat.{_≤_};
+ghost use lib.ListN.{length, drop};
+ghost use Rattle.meaning.specs.Entries.{matchLhs, matchRhs};
+ghost use Rattle.recorded_groups.specs.GroupRecord.{IsGroupAnswer, IsGroupRecord};
+ghost use Rattle.recorded_groups.specs.GroupField.{TextFound, FrontFound, AnswerFound, PrefixesFound, BackThere};
+use match_group::match_lhs;
+use match_group::match_rhs;
+use prefixes::group_prefixes;
+use recorded::field::Next;
+use recorded::field::text_field;
+use recorded::field::wide;
+use write::written::Written;
+
+// Where the text at `at` ends, its length before it; it differs where the record ends first.
+fn text_end(told: &[u8], at: usize) -> Next
+    requires { ⌜ at ≤ length (now told) ⌝ }
+    ensures { λ r. ⌜ TextFound (now (told .entry)) at r ⌝ }
+{
+    if told.len() - at < 2 {
+        return Next::Differs;
+    }
+    let n = wide(told[at]) + wide(told[at + 1]) * 256;
+    if told.len() - at - 2 < n {
+        return Next::Differs;
+    }
+    Next::At(at + 2 + n)
+}
+
+// What a call has written to the front of a buffer.
+fn front_field(told: &[u8], at: usize, w: Written, out: &[u8]) -> Next
+    requires { ⌜ at ≤ length (now told) ⌝ }
+    ensures { λ r. ⌜ FrontFound (now (told .entry)) at (now (out .entry)) (w .refusal) (w .length) r ⌝ }
+{
+    if w.refusal != 0 {
+        return Next::Differs;
+    }
+    let n = w.length as usize;
+    if out.len() < n {
+        return Next::Differs;
+    }
+    text_field(told, at, &out[..n])
+}
+
+// The rows of the forward listing.
+fn lhs_field(
+    told: &[u8],
+    at: usize,
+    op: u64,
+    specs: &[u8],
+    items: &[u8],
+    scratch: &mut [u8],
+) -> Next
+    requires { ⌜ at ≤ length (now told) ⌝ }
+    ensures { λ r. ⌜ AnswerFound (now (told .entry)) at (matchLhs op (now (specs .entry)) (now (items .entry))) r ⌝ }
+{
+    let w = match_lhs(op, specs, items, scratch);
+    front_field(told, at, w, scratch)
+}
+
+// The rows of the reverse listing.
+fn rhs_field(
+    told: &[u8],
+    at: usize,
+    op: u64,
+    specs: &[u8],
+    items: &[u8],
+    scratch: &mut [u8],
+) -> Next
+    requires { ⌜ at ≤ length (now told) ⌝ }
+    ensures { λ r. ⌜ AnswerFound (now (told .entry)) at (matchRhs op (now (specs .entry)) (now (items .entry))) r ⌝ }
+{
+    let w = match_rhs(op, specs, items, scratch);
+    front_field(told, at, w, scratch)
+}
+
+// The prefix list, in first-seen order.
+fn prefixes_field(told: &[u8], at: usize, op: u64, specs: &[u8], scratch: &mut [u8]) -> Next
+    requires { ⌜ at ≤ length (now told) ⌝ }
+    ensures { λ r. ⌜ PrefixesFound (now (told .entry)) at op (now (specs .entry)) r ⌝ }
+{
+    let w = group_prefixes(op, specs, scratch);
+    front_field(told, at, w, scratch)
+}
+
+// The rows of the reverse listing and the prefix list, from `at` to the record's end.
+fn back_agrees(
+    told: &[u8],
+    at: usize,
+    op: u64,
+    specs: &[u8],
+    items: &[u8],
+    scratch: &mut [u8],
+) -> bool
+    requires { ⌜ at ≤ length (now told) ⌝ }
+    ensures { λ r. ⌜ (r ≡ true → BackThere op (now (specs .entry)) (now (items .entry)) (drop at (now (told .entry)))) ⌝ }
+{
+    let Next::At(next) = rhs_field(told, at, op, specs, items, scratch) else {
+        return false;
+    };
+    let Next::At(end) = prefixes_field(told, next, op, specs, scratch) else {
+        return false;
+    };
+    end == told.len()
+}
+
+// The answer, from `at` to the record's end.
+fn answer_agrees(
+    told: &[u8],
+    at: usize,
+    op: u64,
+    specs: &[u8],
+    items: &[u8],
+    scratch: &mut [u8],
+) -> bool
+    requires { ⌜ at ≤ length (now told) ⌝ }
+    ensures { λ r. ⌜ (r ≡ true → IsGroupAnswer op (now (specs .entry)) (now (items .entry)) (drop at (now (told .entry)))) ⌝ }
+{
+    match lhs_field(told, at, op, specs, items, scratch) {
+        Next::At(next) => back_agrees(told, next, op, specs, items, scratch),
+        Next::Differs => false,
+    }
+}
+
+// The record tells what we answer to the group that it names. `scratch` takes our lists; in one too short nothing agrees.
+pub fn group_agrees(told: &[u8], scratch: &mut [u8]) -> bool
+    ensures { λ r. ⌜ (r ≡ true → IsGroupRecord (now (told .entry))) ⌝ }
+{
+    if told.len() < 1 {
+        return false;
+    }
+    let op = wide(told[0]);
+    let Next::At(second) = text_end(told, 1) else {
+        return false;
+    };
+    let Next::At(at) = text_end(told, second) else {
+        return false;
+    };
+    let from = second + 2;
+    answer_agrees(
+        told,
+        at,
+        op as u64,
+        &told[3..second],
+        &told[from..at],
+        scratch,
+    )
+}
