@@ -12,7 +12,7 @@ use lib.ListN.{length, length-append}
 use Rattle.meaning.specs.Bytes.{Text, _and_, _or_, every, each, numbered, hexDigit, lowerHexDigit, lowerByte, lower, objectId, In, here, there}
 use Rattle.meaning.specs.Spec.{Answer, accepted, Spec}
 use Rattle.meaning.specs.Number.{numberBytes, textBytes, took}
-use Rattle.meaning.specs.Lists.{readList}
+use Rattle.meaning.specs.Lists.{readSpecs, readItems, readList}
 use Rattle.meaning.specs.Rows.{Row, destinationBytes, rowBytes, rowListOf, readDestination, readRow, objectDigits, rowPasses, rowRecord, readRows}
 use Rattle.meaning.specs.Match.{formOf, objectSource, whole, Mapped, unmapped, mapped, mapsTo}
 use Rattle.meaning.specs.Listing.{Ends, forwardEnds, reverseEnds, groupRows, objectRow, objectRows, notExcluded, forwardRows, reverseRows}
@@ -141,14 +141,15 @@ rows-back specs rows fits passes h =
     rw (le-leb (length (each rows rowBytes)) 1048576 h, records-read (rowRecord specs) rowBytes (λ r. r) rows (length (each rows rowBytes)) 0 (λ r m. let n = row-length r in omega arith) (λ r m j b s. read-row-record specs j r s (fits r m) (passes r m)) (omega arith))
     (ap {B = Answer (List Row)} accepted (map-same rows))
 
-sound-passes : (specs items : ℕ) (r : Row) → Sound specs items r → rowPasses specs r ≡ true
+-- it passes under its group's count of specs, and under a higher one
+sound-passes : (specs items most : ℕ) (r : Row) → Sound specs items r → specs ≤ most → rowPasses most r ≡ true
 unfolding rowPasses
-sound-passes specs items r s = and-both (lt-ltb (r .spec) specs (s .spec-fits)) (s .kind-passes)
+sound-passes specs items most r s h = and-both (lt-ltb (r .spec) most (omega (arith, s .spec-fits))) (s .kind-passes)
 
--- the second statement of demand 3
-pub listings-read-back : ListingsReadBack
-unfolding rowListOf matchLhs verdictOn validated
-listings-read-back specs items group names e f h = (rw (e, f), back, rw (e, back))
+-- a forward listing that fits a row list is read back under any such count
+pub forward-back : (specs items : Text) (group : List Spec) (names : List Text) → readSpecs 0 specs ≡ accepted group → readItems items ≡ accepted names → length (rowListOf (forwardRows group names)) ≤ 1048576 → (most : ℕ) → length group ≤ most → readRows most (rowListOf (forwardRows group names)) ≡ accepted (forwardRows group names)
+unfolding rowListOf
+forward-back specs items group names e f h most w = rows-back most (forwardRows group names) fits (λ r m. sound-passes (length group) (length names) most r (forward-sound group names r m) w) h
   where
     fits : (r : Row) → In r (forwardRows group names) → Fits r
     fits r m =
@@ -159,5 +160,10 @@ listings-read-back specs items group names e f h = (rw (e, f), back, rw (e, back
         let d = each-long rowBytes m in
         record { item-small = omega arith; spec-small = omega arith; kind-small = omega arith; source-small = omega arith; destination-small = omega arith }
 
+-- the second statement of demand 3
+pub listings-read-back : ListingsReadBack
+unfolding matchLhs verdictOn validated
+listings-read-back specs items group names e f h = (rw (e, f), back, rw (e, back))
+  where
     back : readRows (length group) (rowListOf (forwardRows group names)) ≡ accepted (forwardRows group names)
-    back = rows-back (length group) (forwardRows group names) fits (λ r m. sound-passes (length group) (length names) r (forward-sound group names r m)) h
+    back = forward-back specs items group names e f h (length group) (omega arith)

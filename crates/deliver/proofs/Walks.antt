@@ -1,0 +1,126 @@
+-- The walks over a row list: what is done and the rows that are left make the whole. Assumes nothing.
+use mathlib.Core.Path.{_≡_, refl, sym, ap, _∙_}
+use mathlib.Core.List.{List, [], _∷_, _++_}
+use Prim.Native.Nat.{ℕ, _+_, _*_, _≤_}
+use native.Mathlib.Omega.{arith}
+use mir.Val.{Fits}
+use mir.Syntax.{w64}
+use lib.ListN.{length, length-append}
+use Rattle.meaning.specs.Bytes.{Text}
+use Rattle.meaning.specs.Limits.{specCount}
+use Rattle.meaning.specs.Rows as meaning
+use Rattle.meaning.specs.Deliveries.{rowLine}
+use Rattle.text.specs.Splice.{splice}
+use Rattle.text.proofs.Writing.{Writing, writing-starts, writing-room, writing-more, written-place, written-whole}
+use Rattle.list.specs.declared.cursor.Cursor.{Cursor}
+use Rattle.list.specs.declared.rows.RowPlace.{RowPlace}
+use Rattle.list.specs.declared.rows.RowStep.{RowStep}
+use Rattle.list.specs.declared.rows.RowStep.the-variants.{Row, End, Refused}
+use Rattle.list.specs.Rows.{rowMeant, RowTaken, RowSays}
+use Rattle.list.proofs.RowWalks.{RowsLeft, rows-left, rows-next, rows-end, rows-refused}
+use Rattle.deliver.specs.Printed.{rowsIn, linesOf, Listed, RowStands}
+
+-- all rows of a list are left at its start
+all-left : (list : Text) → Listed list → (at : ℕ) → at ≡ 0 → RowsLeft specCount list at 0 (rowsIn list)
+all-left list l at e = rw e (rows-left specCount list (rowsIn list) (l .reads))
+
+-- a line before those that follow it
+lines-next : (r : meaning.Row) (after : List meaning.Row) → linesOf (r ∷ after) ≡ rowLine r ++ linesOf after
+unfolding linesOf
+lines-next r after = refl
+
+lines-none : linesOf [] ≡ []
+unfolding linesOf
+lines-none = refl
+
+-- a row that the cursor answers stands within the list
+pub row-stands : (list : Text) → Listed list → (at : ℕ) (w : RowStep) → RowSays specCount list at w → (row : RowPlace) (next : Cursor) → w ≡ Row row next → RowStands list row
+row-stands list l at w says row next e =
+    let t : RowTaken specCount list at row (next .at) = rw e at says in
+    record { short = l .short; src-within = t .src-within; dst-within = t .dst-within }
+
+-- the lines are measured as far as a place
+pub record Measured (list : Text) (at size : ℕ) : Type 0 where
+  pub number : ℕ
+  pub rest : List meaning.Row
+  pub left : RowsLeft specCount list at number rest
+  pub small : size ≤ 400000 * at
+  pub whole : size + length (linesOf rest) ≡ length (linesOf (rowsIn list))
+
+-- nothing is measured at the start
+pub measured-starts : (list : Text) → Listed list → (at : ℕ) → at ≡ 0 → Measured list at 0
+measured-starts list l at e = record { number = 0; rest = rowsIn list; left = all-left list l at e; small = omega arith; whole = omega arith }
+
+-- few enough that a machine's number holds the sum with one line more
+module _ (list : Text) (l : Listed list) (at size : ℕ) (m : Measured list at size) where
+  pub measured-small : size ≤ 26214400000
+  measured-small = omega (arith, m .small, m .left .within, l .short)
+
+  pub measured-fits : (n : ℕ) → n ≤ 400000 → Fits w64 (size + n)
+  measured-fits n h = omega (arith, measured-small)
+
+module _ (list : Text) (at size : ℕ) (m : Measured list at size) (w : RowStep) (says : RowSays specCount list at w) where
+  -- one line more
+  pub measured-more : (row : RowPlace) (next : Cursor) → w ≡ Row row next → (n : ℕ) → n ≡ length (rowLine (rowMeant list row)) → n ≤ 400000 → Measured list (next .at) (size + n)
+  measured-more row next e n f h =
+      let t : RowTaken specCount list at row (next .at) = rw e at says in
+      let x = rows-next specCount list at (m .number) (m .rest) (m .left) w says row next e in
+      let g : length (linesOf (m .rest)) ≡ n + length (linesOf (x .after)) = ap (λ (k : List meaning.Row). length (linesOf k)) (x .is) ∙ ap length (lines-next (rowMeant list row) (x .after)) ∙ length-append (rowLine (rowMeant list row)) (linesOf (x .after)) ∙ ap (λ (k : ℕ). k + length (linesOf (x .after))) (sym f) in
+      record { number = _; rest = x .after; left = x .left; small = omega (arith, m .small, t .on); whole = omega (arith, m .whole) }
+
+  -- at the end all are measured
+  pub measured-whole : w ≡ End → size ≡ length (linesOf (rowsIn list))
+  measured-whole e =
+      let x = rows-end specCount list at (m .number) (m .rest) (m .left) w says e in
+      let z : length (linesOf (m .rest)) ≡ 0 = ap (λ (k : List meaning.Row). length (linesOf k)) x ∙ ap length lines-none in
+      omega (arith, m .whole)
+
+  -- no row is refused
+  pub measured-never : (n : ℕ) → w ≡ Refused n → size ≡ length (linesOf (rowsIn list))
+  measured-never n e = rows-refused specCount list at (m .number) (m .rest) (m .left) w says n e
+
+-- the lines are written as far as a place
+pub record Written (d : Text) (from : ℕ) (list : Text) (at : ℕ) (out : Text) (i : ℕ) : Type 0 where
+  pub number : ℕ
+  pub rest : List meaning.Row
+  pub left : RowsLeft specCount list at number rest
+  pub writing : Writing d from (linesOf (rowsIn list)) out i (linesOf rest)
+
+-- nothing is written at the start
+pub written-starts : (d : Text) (from : ℕ) (list : Text) → Listed list → from + length (linesOf (rowsIn list)) ≤ length d → (at : ℕ) → at ≡ 0 → Written d from list at d from
+written-starts d from list l h at e = record { number = 0; rest = rowsIn list; left = all-left list l at e; writing = writing-starts d from (linesOf (rowsIn list)) h }
+
+module _ (d : Text) (from : ℕ) (list : Text) (at : ℕ) (out : Text) (i : ℕ) (m : Written d from list at out i) (w : RowStep) (says : RowSays specCount list at w) where
+  -- a row and those after it
+  module _ (row : RowPlace) (next : Cursor) (e : w ≡ Row row next) where
+    pieces : (after : List meaning.Row) → m .rest ≡ rowMeant list row ∷ after → linesOf (m .rest) ≡ rowLine (rowMeant list row) ++ linesOf after
+    pieces after f = ap linesOf f ∙ lines-next (rowMeant list row) after
+
+    -- its line has room
+    pub written-room : i + length (rowLine (rowMeant list row)) ≤ length out
+    written-room =
+        let x = rows-next specCount list at (m .number) (m .rest) (m .left) w says row next e in
+        writing-room d from (linesOf (rowsIn list)) out i (linesOf (m .rest)) (m .writing) (rowLine (rowMeant list row)) (linesOf (x .after)) (pieces (x .after) (x .is))
+
+    -- one line more
+    pub written-more : (o : Text) (j : ℕ) → o ≡ splice out i (rowLine (rowMeant list row)) → j ≡ i + length (rowLine (rowMeant list row)) → Written d from list (next .at) o j
+    written-more o j p q =
+        let x = rows-next specCount list at (m .number) (m .rest) (m .left) w says row next e in
+        record { number = _; rest = x .after; left = x .left; writing = writing-more d from (linesOf (rowsIn list)) out i (linesOf (m .rest)) (m .writing) (rowLine (rowMeant list row)) (linesOf (x .after)) (pieces (x .after) (x .is)) o j p q }
+
+  -- at the end all are written
+  nothing : w ≡ End → linesOf (m .rest) ≡ []
+  nothing e = ap linesOf (rows-end specCount list at (m .number) (m .rest) (m .left) w says e) ∙ lines-none
+
+  pub written-put : w ≡ End → out ≡ splice d from (linesOf (rowsIn list))
+  written-put e = written-whole d from (linesOf (rowsIn list)) out i (linesOf (m .rest)) (m .writing) (nothing e)
+
+  pub written-ends : w ≡ End → i ≡ from + length (linesOf (rowsIn list))
+  written-ends e = written-place d from (linesOf (rowsIn list)) out i (linesOf (m .rest)) (m .writing) (nothing e)
+
+  -- no row is refused
+  pub never-put : (n : ℕ) → w ≡ Refused n → out ≡ splice d from (linesOf (rowsIn list))
+  never-put n e = rows-refused specCount list at (m .number) (m .rest) (m .left) w says n e
+
+  pub never-ends : (n : ℕ) → w ≡ Refused n → i ≡ from + length (linesOf (rowsIn list))
+  never-ends n e = rows-refused specCount list at (m .number) (m .rest) (m .left) w says n e

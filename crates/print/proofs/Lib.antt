@@ -1,0 +1,5 @@
+-- `Decimals`: the digits of a number. `Texts`: a text byte by byte. `Fields`: a field and the byte after it. `Lines`: whole lines.
+pub mod Decimals
+pub mod Texts
+pub mod Fields
+pub mod Lines

@@ -1,0 +1,56 @@
+// Decimal numbers.
+ghost use mathlib.Core.Path.{_≡_};
+ghost use Prim.Native.Nat.{_+_, _≤_, _%_};
+ghost use lib.ListN.{length};
+ghost use Rattle.meaning.specs.Deliveries.{digits, decimal};
+ghost use Rattle.text.specs.Splice.{splice};
+use text::put_byte;
+
+// The most digits that a number has in print.
+const DIGITS: usize = 4;
+
+// The last digit of a number.
+fn last_digit(n: usize) -> u8
+    ensures { λ r. ⌜ r ≡ 48 + n % 10 ⌝ }
+{
+    (48 + n % 10) as u8
+}
+
+// How many digits a number has.
+pub fn decimal_size(n: usize) -> usize
+    ensures { λ r. ⌜ (r ≡ length (decimal n)) × (r ≤ 4) ⌝ }
+{
+    if n < 10 {
+        return 1;
+    }
+    if n < 100 {
+        return 2;
+    }
+    if n < 1000 {
+        return 3;
+    }
+    4
+}
+
+// Writes the digits of a number, k of them at most, and answers the place after them.
+fn put_digits(out: &mut [u8], at: usize, k: usize, n: usize) -> usize
+    requires { ⌜ at + length (digits k n) ≤ length (now out) ⌝ }
+    ensures { λ r. ⌜ (now (out .exit) ≡ splice (now (out .entry)) at (digits k n)) × (r ≡ at + length (digits k n)) ⌝ }
+{
+    if k == 0 {
+        return at;
+    }
+    if n < 10 {
+        return put_byte(out, at, last_digit(n));
+    }
+    let i = put_digits(out, at, k - 1, n / 10);
+    put_byte(out, i, last_digit(n))
+}
+
+// Writes a number, and answers the place after it.
+pub fn put_decimal(out: &mut [u8], at: usize, n: usize) -> usize
+    requires { ⌜ at + length (decimal n) ≤ length (now out) ⌝ }
+    ensures { λ r. ⌜ (now (out .exit) ≡ splice (now (out .entry)) at (decimal n)) × (r ≡ at + length (decimal n)) ⌝ }
+{
+    put_digits(out, at, DIGITS, n)
+}
