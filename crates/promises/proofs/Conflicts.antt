@@ -76,12 +76,12 @@ unfolding destinationOf
 destination-in {rows} {r} d h e = in-each destinationOf h (rw e here)
 
 -- a destination is the destination of a conflict exactly when two rows put different sources on it
-conflict-of-two : (rows : List Row) (d : Text) → TwoSources rows d → In (conflictOn rows d) (conflicts rows)
+pub conflict-of-two : (rows : List Row) (d : Text) → TwoSources rows d → In (conflictOn rows d) (conflicts rows)
 unfolding conflicts
 conflict-of-two rows d t = in-map (conflictOn rows) (in-keep (inConflict rows) (in-order (destination-in d (t .first-in) (t .first-onto))) (two-found rows d t))
 
 -- and only then
-two-of-conflict : (rows : List Row) (c : Conflict) → In c (conflicts rows) → TwoSources rows (c .destination)
+pub two-of-conflict : (rows : List Row) (c : Conflict) → In c (conflicts rows) → TwoSources rows (c .destination)
 unfolding conflicts conflictOn
 two-of-conflict rows c h =
     let m = map-in (conflictOn rows) (keep (inConflict rows) (inOrder (each rows destinationOf))) h in

@@ -146,19 +146,25 @@ sound-passes : (specs items most : ℕ) (r : Row) → Sound specs items r → sp
 unfolding rowPasses
 sound-passes specs items most r s h = and-both (lt-ltb (r .spec) most (omega (arith, s .spec-fits))) (s .kind-passes)
 
--- a forward listing that fits a row list is read back under any such count
-pub forward-back : (specs items : Text) (group : List Spec) (names : List Text) → readSpecs 0 specs ≡ accepted group → readItems items ≡ accepted names → length (rowListOf (forwardRows group names)) ≤ 1048576 → (most : ℕ) → length group ≤ most → readRows most (rowListOf (forwardRows group names)) ≡ accepted (forwardRows group names)
+-- rows of a listing are read back under any such count, where their bytes fit a row list
+pub sound-back-under : (specs items most : ℕ) (rows : List Row) → specs ≤ 256 → items ≤ 1024 → specs ≤ most → ((r : Row) → In r rows → Sound specs items r) → length (rowListOf rows) ≤ 1048576 → readRows most (rowListOf rows) ≡ accepted rows
 unfolding rowListOf
-forward-back specs items group names e f h most w = rows-back most (forwardRows group names) fits (λ r m. sound-passes (length group) (length names) most r (forward-sound group names r m) w) h
+sound-back-under specs items most rows a b w sound h = rows-back most rows fits (λ r m. sound-passes specs items most r (sound r m) w) h
   where
-    fits : (r : Row) → In r (forwardRows group names) → Fits r
+    fits : (r : Row) → In r rows → Fits r
     fits r m =
-        let s = forward-sound group names r m in
-        let a = group-count 0 specs group e in
-        let b = names-count items names f in
+        let s = sound r m in
         let c = row-length r in
         let d = each-long rowBytes m in
         record { item-small = omega arith; spec-small = omega arith; kind-small = omega arith; source-small = omega arith; destination-small = omega arith }
+
+-- under their group's own count
+pub sound-back : (specs items : ℕ) (rows : List Row) → specs ≤ 256 → items ≤ 1024 → ((r : Row) → In r rows → Sound specs items r) → length (rowListOf rows) ≤ 1048576 → readRows specs (rowListOf rows) ≡ accepted rows
+sound-back specs items rows a b sound h = sound-back-under specs items specs rows a b (omega arith) sound h
+
+-- a forward listing that fits a row list is read back under any such count
+pub forward-back : (specs items : Text) (group : List Spec) (names : List Text) → readSpecs 0 specs ≡ accepted group → readItems items ≡ accepted names → length (rowListOf (forwardRows group names)) ≤ 1048576 → (most : ℕ) → length group ≤ most → readRows most (rowListOf (forwardRows group names)) ≡ accepted (forwardRows group names)
+forward-back specs items group names e f h most w = sound-back-under (length group) (length names) most (forwardRows group names) (group-count 0 specs group e) (names-count items names f) w (forward-sound group names) h
 
 -- the second statement of demand 3
 pub listings-read-back : ListingsReadBack
@@ -166,4 +172,4 @@ unfolding matchLhs verdictOn validated
 listings-read-back specs items group names e f h = (rw (e, f), back, rw (e, back))
   where
     back : readRows (length group) (rowListOf (forwardRows group names)) ≡ accepted (forwardRows group names)
-    back = forward-back specs items group names e f h (length group) (omega arith)
+    back = sound-back (length group) (length names) (forwardRows group names) (group-count 0 specs group e) (names-count items names f) (forward-sound group names) h

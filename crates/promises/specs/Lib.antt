@@ -1,7 +1,9 @@
--- What is promised of the definitions of `meaning`. `Demands`: demand 3, in the words of `Terms`; `Variants`: what would be false.
+-- What is promised of the definitions of `meaning`. `Demands`: demand 3, in the words of `Terms`; `Calls`: the same of calls and their
+-- buffers; `Variants` and `CallVariants`: what would be false.
 -- `Accepted`: what an accepted spec is. `Facts`: what the definitions come to.
 pub mod Accepted
 pub mod Terms
 pub mod Demands
 pub mod Variants
+pub mod Calls
 pub mod Facts

@@ -1,18 +1,22 @@
--- The words of demand 3, as document 01 fixes them.
+-- The words of demand 3, as document 01 fixes them; then those that speak of calls.
+use Prim.Native.Nat.{ℕ}
 use mathlib.Core.Path.{_≡_}
+use mathlib.Core.Logic.{_↔_}
 use mathlib.Core.Bool.{Bool, true, false, not}
 use mathlib.Core.List.{List, map}
 use mathlib.Core.Option.{Option, none, some}
 use lib.Dec.{leb}
-use lib.ListN.{length}
-use Rattle.meaning.specs.Bytes.{Text, bytes, _and_, _or_, begins, present, orEmpty, In}
+use lib.ListN.{length, take, drop}
+use Rattle.meaning.specs.Bytes.{Text, bytes, _and_, _or_, keep, each, begins, present, orEmpty, In}
 use Rattle.meaning.specs.Limits.{specBytes}
-use Rattle.meaning.specs.Spec.{Spec, isNegative, starred}
+use Rattle.meaning.specs.Spec.{Answer, accepted, Spec, isNegative, starred}
+use Rattle.meaning.specs.Buffers.{Written, MeetsOne, MeetsTwo}
 use Rattle.meaning.specs.Instruction.{canonicalText}
 use Rattle.meaning.specs.Number.{recordBytes}
-use Rattle.meaning.specs.Rows.{Row}
+use Rattle.meaning.specs.Lists.{readSpecs, readItems}
+use Rattle.meaning.specs.Rows.{Row, rowListOf, readRows}
 use Rattle.meaning.specs.Listing.{forwardRows, reverseRows}
-use Rattle.meaning.specs.Validation.{Conflict, Verdict, conflicting, passing}
+use Rattle.meaning.specs.Validation.{Conflict, conflicts, conflictBytes, isKept, fixOf, fixBytes, Verdict, conflicting, passing}
 use Rattle.meaning.specs.Entries.{matchLhs, matchRhs, verdictOn, validated}
 
 -- two rows have one source: the same kind and the same bytes
@@ -81,3 +85,81 @@ pub record SameMeaning (group group′ : List Spec) (specs specs′ : Text) : Ty
   pub forward-entry : (items : Text) → matchLhs 0 specs items ≡ matchLhs 0 specs′ items
   pub reverse-entry : (items : Text) → matchRhs 0 specs items ≡ matchRhs 0 specs′ items
   pub validated-entry : (list : Text) → validated 0 specs list ≡ validated 0 specs′ list
+
+-- Calls
+
+-- a call that answers in one buffer: the buffer before and after, and the numbers that it tells
+pub record OneCall : Type 0 where
+  pub before : Text
+  pub after : Text
+  pub refusal : ℕ
+  pub recordNumber : ℕ
+  pub size : ℕ
+
+-- the call meets this answer: what the contract of an entry ensures
+abbrev pub MetOne : Answer Written → OneCall → Type 0
+MetOne a c = MeetsOne a (c .before) (c .after) (c .refusal) (c .recordNumber) (c .size)
+
+-- the bytes that it answers: as many at the front of its buffer as it tells
+abbrev pub bytesOf : OneCall → Text
+bytesOf c = take (c .size) (c .after)
+
+-- a call that answers in two buffers, one for rows or conflicts and one for fixes
+pub record TwoCall : Type 0 where
+  pub out : Text
+  pub fixes : Text
+  pub outAfter : Text
+  pub fixesAfter : Text
+  pub refusal : ℕ
+  pub recordNumber : ℕ
+  pub mark : ℕ
+  pub size : ℕ
+  pub fixesSize : ℕ
+  pub buffer : ℕ
+
+-- the call meets this answer
+abbrev pub MetTwo : Answer Written → TwoCall → Type 0
+MetTwo a c = MeetsTwo a (c .out) (c .fixes) (c .outAfter) (c .fixesAfter) (c .refusal) (c .recordNumber) (c .mark) (c .size) (c .fixesSize) (c .buffer)
+
+-- the bytes of rows or conflicts that it answers
+abbrev pub firstBytesOf : TwoCall → Text
+firstBytesOf c = take (c .size) (c .outAfter)
+
+-- a buffer is left with these bytes at its front, so many as are told, and the rest as before
+pub record Leaves (before after part : Text) (size : ℕ) : Type 0 where
+  pub front : take size after ≡ part
+  pub size-is : size ≡ length part
+  pub rest : drop size after ≡ drop size before
+  pub same-length : length after ≡ length before
+
+-- a call of validation tells conflicts: the mark 1, the bytes of conflicts whose destinations are exactly those on which two of the
+-- rows put different sources, one at least; and the fix buffer as before
+pub record TellsConflicts (rows : List Row) (c : TwoCall) : Type 0 where
+  pub marked : c .mark ≡ 1
+  pub conflicts-left : Leaves (c .out) (c .outAfter) (each (conflicts rows) conflictBytes) (c .size)
+  pub fixes-alone : c .fixesAfter ≡ c .fixes
+  pub no-fixes-told : c .fixesSize ≡ 0
+  pub exactly : (d : Text) → ((k : Conflict) × In k (conflicts rows) × (k .destination ≡ d)) ↔ TwoSources rows d
+  pub one-at-least : (d : Text) × TwoSources rows d
+
+-- it tells a pass: the mark 0, the bytes of the kept rows and of the fixes; and on no destination do two of the rows put different
+-- sources
+pub record TellsPass (rows : List Row) (c : TwoCall) : Type 0 where
+  pub unmarked : c .mark ≡ 0
+  pub kept-left : Leaves (c .out) (c .outAfter) (rowListOf (keep isKept rows)) (c .size)
+  pub fixes-left : Leaves (c .fixes) (c .fixesAfter) (each (each rows fixOf) fixBytes) (c .fixesSize)
+  pub none-two : (d : Text) → TwoSources rows d → ⊥
+
+-- a spec list and an item list are read
+pub record ReadsItems (specs items : Text) : Type 0 where
+  pub group : List Spec
+  pub names : List Text
+  pub group-is : readSpecs 0 specs ≡ accepted group
+  pub names-are : readItems items ≡ accepted names
+
+-- a spec list and a row list are read
+pub record ReadsRows (specs list : Text) : Type 0 where
+  pub group : List Spec
+  pub rows : List Row
+  pub group-is : readSpecs 0 specs ≡ accepted group
+  pub rows-are : readRows (length group) list ≡ accepted rows
