@@ -1,26 +1,26 @@
 -- Demand 3 of the calls. Assumes nothing.
-use Prim.Native.Nat.{ℕ, _≤_, _<_}
+use Prim.Native.Nat.{ℕ, _≤_}
 use native.Mathlib.Omega.{arith}
-use mathlib.Core.Path.{_≡_, refl, sym, ap, _∙_}
+use mathlib.Core.Path.{_≡_, refl, ap}
 use mathlib.Core.Logic.{_↔_, _⊎_, inl, inr}
 use mathlib.Core.Bool.{Bool, true, false, cond}
 use mathlib.Core.List.{List, [], _∷_, _++_}
-use mathlib.Core.Option.{Option, none, some}
+use mathlib.Core.Option.{none, some}
 use borrow.Author.Tests.{leb-true, leb-false}
 use lib.Dec.{leb}
-use lib.ListN.{length, take, drop, length-append, length-drop}
+use lib.ListN.{length, drop, length-append, length-drop}
 use lib.Seq.{take-append-seam, drop-append-seam}
 use Rattle.meaning.specs.Bytes.{Text, keep, each, In, here}
 use Rattle.meaning.specs.Limits.{rowListBytes}
 use Rattle.meaning.specs.Spec.{Answer, accepted, refused, Spec, readSpec}
-use Rattle.meaning.specs.Buffers.{Written, short, writes, outcome, buffersAfter, Told, Tells, Meets, oneLength}
+use Rattle.meaning.specs.Buffers.{Written, short, writes, buffersAfter, Tells, Meets}
 use Rattle.meaning.specs.Instruction.{canonicalText}
 use Rattle.meaning.specs.Lists.{readSpecs, readItems}
 use Rattle.meaning.specs.Rows.{Row, rowBytes, rowListOf, readRows}
 use Rattle.meaning.specs.Listing.{forwardRows, reverseRows}
 use Rattle.meaning.specs.Validation.{Conflict, conflictOn, conflicts, conflictBytes, isKept, fixOf, fixBytes, passing, passUnless, verdict}
 use Rattle.meaning.specs.Entries.{verdictBytes, toBstring, matchLhs, matchRhs, verdictOn, validated}
-use Rattle.promises.specs.Terms.{TwoSources, OneCall, MetOne, bytesOf, TwoCall, MetTwo, firstBytesOf, Leaves, TellsConflicts, TellsPass, ReadsItems, ReadsRows}
+use Rattle.promises.specs.Terms.{TwoSources, OneCall, MetOne, bytesOf, TwoCall, MetTwo, Leaves, TellsConflicts, TellsPass, ReadsItems, ReadsRows}
 use Rattle.promises.specs.Calls.{UnlessRefused, ConflictsTold, ListingsTold, MapBackTold, CanonicalTold}
 use Rattle.promises.proofs.Laws.{keep-in}
 use Rattle.promises.proofs.Members.{group-count, names-count, rows-long}
@@ -208,7 +208,7 @@ reverse-back specs items group names c e f l h =
 pub listings-told : ListingsTold
 listings-told specs items group names there e f m z h =
     let l = forward-leaves specs items group names there e f m z in
-    let b = forward-back specs items group names there e f l h in
+    let b = forward-back specs items group names there e f l (omega (arith, h)) in
     (l, b, λ c n y. conflicts-told specs (bytesOf there) group (forwardRows group names) c e b n y)
 
 -- map back told
@@ -252,7 +252,7 @@ map-back-told specs items others group names otherNames there c back e f g rever
     let fits : length (bytesOf there) ≤ rowListBytes = validated-fits specs (bytesOf there) c n y in
     let size : there .size ≤ rowListBytes = omega (arith, ap (λ (t : Text). length t) (l .front)) in
     let b = forward-back specs items group names there e f l size in
-    let t = pass-told (forwardRows group names) c k (conflicts-told specs (bytesOf there) group (forwardRows group names) c e b n y) in
+    let t = pass-told (forwardRows group names) c (omega (arith, k)) (conflicts-told specs (bytesOf there) group (forwardRows group names) c e b n y) in
     let shorter = keep-shorter isKept (forwardRows group names) in
     let v = reverse-leaves specs others group otherNames back e g o x in
     (keep isKept (forwardRows group names),

@@ -8,10 +8,10 @@ use mathlib.Core.Option.{none}
 use lib.Dec.{eqb, leb, ltb}
 use lib.ListN.{length}
 use Rattle.meaning.specs.Bytes.{Text}
-use Rattle.meaning.specs.Spec.{Answer, accepted, refused, Spec, unless, specOf, specRefusal, readSpec}
+use Rattle.meaning.specs.Spec.{Answer, accepted, refused, unless, specOf, specRefusal, readSpec}
 use Rattle.meaning.specs.Number.{Step, took, no, Reader, stepThen, _>>=_, give, need, groupBefore, readGroups, readNumber, readBytes, readText}
 use Rattle.meaning.specs.Lists.{withFirst, recordThen, recordsFrom, readList, answered, specRecord, itemRecord, readSpecs, readItems}
-use Rattle.meaning.specs.Rows.{Row, destinationAfter, readDestination, readRow, rowPasses, rowRecord, readRows}
+use Rattle.meaning.specs.Rows.{destinationAfter, readDestination, readRow, rowPasses, rowRecord, readRows}
 use Rattle.meaning.specs.Entries.{_andThen_, toBstring, matchLhs, matchRhs, verdictOn, validated}
 
 -- a step that refuses has a number above 0

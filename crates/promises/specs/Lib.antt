@@ -6,4 +6,5 @@ pub mod Terms
 pub mod Demands
 pub mod Variants
 pub mod Calls
+pub mod CallVariants
 pub mod Facts
