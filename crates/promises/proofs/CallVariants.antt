@@ -162,7 +162,7 @@ any-spec f =
     let r = row 1 0 (bytes "refs/heads/a") (bytes "refs/heads/b") in
     let b = rowListOf (r ∷ []) in
     let t = f (3 ∷ bytes "a:b") (recordBytes (bytes "refs/heads/a" ∷ [])) (recordBytes (bytes "refs/heads/b" ∷ [])) (pair (bytes "a") (bytes "b") ∷ []) (bytes "refs/heads/a" ∷ []) (bytes "refs/heads/b" ∷ []) (writing b b) (keptIn b) (writing [] [])
-          refl refl refl (writing-met _ b b refl (omega arith)) refl (kept-met _ b refl) refl refl (writing-met _ [] [] refl (omega arith)) refl in
+    refl refl refl (writing-met _ b b refl (omega arith)) refl (kept-met _ b refl) refl refl (writing-met _ [] [] refl (omega arith)) refl in
     let k : r ∷ [] ≡ t .0 = accepted-same (t .1) in
     in-none (t .2 r (bytes "refs/heads/b") (bytes "refs/heads/a") (rw (← k) here) refl here here refl .row-in)
   where

@@ -4,7 +4,7 @@ use native.Mathlib.Omega.{arith}
 use mathlib.Core.Path.{_≡_, refl, ap}
 use mathlib.Core.Logic.{_↔_, _⊎_, inl, inr}
 use mathlib.Core.Bool.{Bool, true, false, cond}
-use mathlib.Core.List.{List, [], _∷_, _++_}
+use mathlib.Core.List.{List, [], _∷_, _++_, map}
 use mathlib.Core.Option.{none, some}
 use borrow.Author.Tests.{leb-true, leb-false}
 use lib.Dec.{leb}
@@ -15,12 +15,13 @@ use Rattle.meaning.specs.Limits.{rowListBytes}
 use Rattle.meaning.specs.Spec.{Answer, accepted, refused, Spec, readSpec}
 use Rattle.meaning.specs.Buffers.{Written, short, writes, buffersAfter, Tells, Meets}
 use Rattle.meaning.specs.Instruction.{canonicalText}
+use Rattle.meaning.specs.Number.{recordBytes}
 use Rattle.meaning.specs.Lists.{readSpecs, readItems}
 use Rattle.meaning.specs.Rows.{Row, rowBytes, rowListOf, readRows}
 use Rattle.meaning.specs.Listing.{forwardRows, reverseRows}
 use Rattle.meaning.specs.Validation.{Conflict, conflictOn, conflicts, conflictBytes, isKept, fixOf, fixBytes, passing, passUnless, verdict}
 use Rattle.meaning.specs.Entries.{verdictBytes, toBstring, matchLhs, matchRhs, verdictOn, validated}
-use Rattle.promises.specs.Terms.{TwoSources, OneCall, MetOne, bytesOf, TwoCall, MetTwo, Leaves, TellsConflicts, TellsPass, ReadsItems, ReadsRows}
+use Rattle.promises.specs.Terms.{TwoSources, canonicalTexts, OneCall, MetOne, bytesOf, CallOnEach, TwoCall, MetTwo, Leaves, TellsConflicts, TellsPass, ReadsItems, ReadsRows}
 use Rattle.promises.specs.Calls.{UnlessRefused, ConflictsTold, ListingsTold, MapBackTold, CanonicalTold}
 use Rattle.promises.proofs.Laws.{keep-in}
 use Rattle.promises.proofs.Members.{group-count, names-count, rows-long}
@@ -29,6 +30,7 @@ use Rattle.promises.proofs.ReadBack.{forward-sound, reverse-sound, soun
 use Rattle.promises.proofs.MapBack.{kept-map-back}
 use Rattle.promises.proofs.Canonical.{canonical-texts-change-nothing}
 use Rattle.promises.proofs.Fitting.{rows-answered}
+use Rattle.promises.proofs.Texts.{EachRead, specs-texts}
 use Rattle.promises.proofs.Refusals.{Above, and-accepted, to-bstring-above, match-lhs-above, match-rhs-above, validated-above}
 
 -- what a call that tells no refusal leaves
@@ -254,12 +256,13 @@ map-back-told specs items others group names otherNames there c back e f g rever
     let b = forward-back specs items group names there e f l size in
     let t = pass-told (forwardRows group names) c (omega (arith, k)) (conflicts-told specs (bytesOf there) group (forwardRows group names) c e b n y) in
     let shorter = keep-shorter isKept (forwardRows group names) in
-    let v = reverse-leaves specs others group otherNames back e g o x in
-    (keep isKept (forwardRows group names),
-    rw (t .kept-left .front) (sound-back (length group) (length names) (keep isKept (forwardRows group names)) (group-count 0 specs group e) (names-count items names f) (λ r i. forward-sound group names r (keep-in isKept (forwardRows group names) i .0)) (omega arith)),
-    v,
-    reverse-back specs others group otherNames back e g v,
-    λ r d u i j p q. kept-map-back group names otherNames (keep isKept (forwardRows group names)) (each (forwardRows group names) fixOf) r d u reversing (verdict-with (forwardRows group names) (t .none-two)) i j p q)
+    let v = reverse-leaves specs others group otherNames back e g o x in (
+      keep isKept (forwardRows group names),
+      rw (t .kept-left .front) (sound-back (length group) (length names) (keep isKept (forwardRows group names)) (group-count 0 specs group e) (names-count items names f) (λ r i. forward-sound group names r (keep-in isKept (forwardRows group names) i .0)) (omega arith)),
+      v,
+      reverse-back specs others group otherNames back e g v,
+      λ r d u i j p q. kept-map-back group names otherNames (keep isKept (forwardRows group names)) (each (forwardRows group names) fixOf) r d u reversing (verdict-with (forwardRows group names) (t .none-two)) i j p q,
+    )
 
 -- canonical texts told
 
@@ -274,12 +277,26 @@ text-is : (t : Text) (s : Spec) → readSpec 0 t ≡ accepted s → toBstring 0 
 unfolding toBstring
 text-is t s e = rw e
 
+-- what a call for the canonical text leaves
+text-leaves : (t : Text) (s : Spec) (c : OneCall) → readSpec 0 t ≡ accepted s → MetOne (toBstring 0 t) c → c .refusal ≡ 0 → Leaves (c .before) (c .after) (canonicalText 0 s) (c .size)
+text-leaves t s c e m z = one-leaves (toBstring 0 t) (canonicalText 0 s) c (text-is t s e) m z
+
+-- what such calls answer, in order
+texts-answered : (texts : List Text) (group : List Spec) (calls : List OneCall) → EachRead texts group → CallOnEach texts calls → map bytesOf calls ≡ canonicalTexts group
+texts-answered [] [] [] r m = refl
+texts-answered [] [] (c ∷ calls) r m = elim m [ ]
+texts-answered [] (s ∷ group) calls r m = elim r [ ]
+texts-answered (t ∷ texts) [] calls r m = elim r [ ]
+texts-answered (t ∷ texts) (s ∷ group) [] r m = elim m [ ]
+texts-answered (t ∷ texts) (s ∷ group) (c ∷ calls) r m = rw (text-leaves t s c (r .0) (m .0) (m .1) .front, texts-answered texts group calls (r .1) (m .2))
+
 pub canonical-told : CanonicalTold
 canonical-told = (
-  λ t s c e m z. one-leaves (toBstring 0 t) (canonicalText 0 s) c (text-is t s e) m z,
+  text-leaves,
+  λ texts group calls e m. ap recordBytes (texts-answered texts group calls (specs-texts texts group e) m),
   λ specs group e fit short plus.
-  let k = canonical-texts-change-nothing specs group e fit short plus .2 in
-  ((λ items c. same-one (k .forward-entry items) c), (λ items c. same-one (k .reverse-entry items) c), (λ list c. same-two (k .validated-entry list) c)),
+      let k = canonical-texts-change-nothing specs group e fit short plus .2 in
+      ((λ items c. same-one (k .forward-entry items) c), (λ items c. same-one (k .reverse-entry items) c), (λ list c. same-two (k .validated-entry list) c)),
 )
 
 -- demand 3 of the calls, whole

@@ -197,7 +197,7 @@ row-passed specs i s b rest e =
     rw u at y
 
 -- a list that is read is within its limit
-list-within : {B : Type 0} (limit : ℕ) (one : ℕ → Reader B) (s : Text) (l : List B) → readList limit one s ≡ accepted l → length s ≤ limit
+pub list-within : {B : Type 0} (limit : ℕ) (one : ℕ → Reader B) (s : Text) (l : List B) → readList limit one s ≡ accepted l → length s ≤ limit
 unfolding readList
 list-within limit one s l e = go (leb (length s) limit) refl e
   where

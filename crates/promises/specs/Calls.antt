@@ -4,18 +4,19 @@ use Prim.Native.Nat.{_≤_}
 use mathlib.Core.Path.{_≡_}
 use mathlib.Core.Logic.{_↔_, _⊎_}
 use mathlib.Core.Bool.{true}
-use mathlib.Core.List.{List}
+use mathlib.Core.List.{List, map}
 use mathlib.Core.Option.{some}
 use lib.ListN.{length}
 use Rattle.meaning.specs.Bytes.{Text, every, In}
 use Rattle.meaning.specs.Limits.{listBytes, rowListBytes}
 use Rattle.meaning.specs.Spec.{accepted, Spec, readSpec}
 use Rattle.meaning.specs.Instruction.{canonicalText}
+use Rattle.meaning.specs.Number.{recordBytes}
 use Rattle.meaning.specs.Lists.{readSpecs, readItems}
 use Rattle.meaning.specs.Rows.{Row, rowListOf, readRows}
 use Rattle.meaning.specs.Listing.{forwardRows, reverseRows}
 use Rattle.meaning.specs.Entries.{toBstring, matchLhs, matchRhs, validated}
-use Rattle.promises.specs.Terms.{reversible, StandsAsSource, canonicalList, textFits, noPlus, OneCall, MetOne, bytesOf, TwoCall, MetTwo, firstBytesOf, Leaves, TellsConflicts, TellsPass, ReadsItems, ReadsRows}
+use Rattle.promises.specs.Terms.{reversible, StandsAsSource, canonicalList, textFits, noPlus, OneCall, MetOne, bytesOf, CallOnEach, TwoCall, MetTwo, firstBytesOf, Leaves, TellsConflicts, TellsPass, ReadsItems, ReadsRows}
 
 -- "[..] unless refused [..]": a call that tells no refusal was given a spec that is accepted, or lists that are read; so what the
 -- statements below ask of the lists is so wherever the call is not refused.
@@ -77,11 +78,12 @@ MapBackTold =
 
 -- "Whatever the items and rows, a fetch group and the group of its canonical texts have the same forward rows, reverse rows,
 -- conflicts, kept rows and fixes, if those texts fit the limits and no fetch-only source begins with +."
--- A call on one spec leaves its canonical text; a call under a spec list and the same call under the list of canonical texts may
--- answer the same and nothing else.
+-- A call for the canonical text of a spec leaves it; such calls on the texts of a spec list give the list of canonical texts; and a
+-- call under the one list meets its answer exactly when the same call under the other does.
 abbrev pub CanonicalTold : Type 0
 CanonicalTold =
     ((t : Text) (s : Spec) (c : OneCall) → readSpec 0 t ≡ accepted s → MetOne (toBstring 0 t) c → c .refusal ≡ 0 → Leaves (c .before) (c .after) (canonicalText 0 s) (c .size))
+    × ((texts : List Text) (group : List Spec) (calls : List OneCall) → readSpecs 0 (recordBytes texts) ≡ accepted group → CallOnEach texts calls → recordBytes (map bytesOf calls) ≡ canonicalList group)
     × ((specs : Text) (group : List Spec)
     → readSpecs 0 specs ≡ accepted group
     → every textFits group ≡ true

@@ -3,7 +3,7 @@ use Prim.Native.Nat.{ℕ}
 use mathlib.Core.Path.{_≡_}
 use mathlib.Core.Logic.{_↔_}
 use mathlib.Core.Bool.{Bool, true, false, not}
-use mathlib.Core.List.{List, map}
+use mathlib.Core.List.{List, [], _∷_, map}
 use mathlib.Core.Option.{Option, none, some}
 use lib.Dec.{leb}
 use lib.ListN.{length, take, drop}
@@ -17,7 +17,7 @@ use Rattle.meaning.specs.Lists.{readSpecs, readItems}
 use Rattle.meaning.specs.Rows.{Row, rowListOf, readRows}
 use Rattle.meaning.specs.Listing.{forwardRows, reverseRows}
 use Rattle.meaning.specs.Validation.{Conflict, conflicts, conflictBytes, isKept, fixOf, fixBytes, Verdict, conflicting, passing}
-use Rattle.meaning.specs.Entries.{matchLhs, matchRhs, verdictOn, validated}
+use Rattle.meaning.specs.Entries.{toBstring, matchLhs, matchRhs, verdictOn, validated}
 
 -- two rows have one source: the same kind and the same bytes
 abbrev pub SameSource : Row → Row → Type 0
@@ -103,6 +103,13 @@ MetOne a c = MeetsOne a (c .before) (c .after) (c .refusal) (c .recordNumber) (c
 -- the bytes that it answers: as many at the front of its buffer as it tells
 abbrev pub bytesOf : OneCall → Text
 bytesOf c = take (c .size) (c .after)
+
+-- a call for the canonical text of each of these texts, in order, that tells no refusal
+abbrev pub CallOnEach : List Text → List OneCall → Type 0
+CallOnEach [] [] = Unit {0}
+CallOnEach [] (c ∷ calls) = ⊥
+CallOnEach (t ∷ texts) [] = ⊥
+CallOnEach (t ∷ texts) (c ∷ calls) = MetOne (toBstring 0 t) c × (c .refusal ≡ 0) × CallOnEach texts calls
 
 -- a call that answers in two buffers, one for rows or conflicts and one for fixes
 pub record TwoCall : Type 0 where
