@@ -1,4 +1,4 @@
-//! The program `deliveries` as a function: the bytes that it prints for the bytes of its input.
+// The program `deliveries` as a function: the bytes that it prints for the bytes of its input.
 ghost use mathlib.Core.Path.{_≡_};
 ghost use Prim.Native.Nat.{_≤_};
 ghost use lib.ListN.{length, drop};

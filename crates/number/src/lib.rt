@@ -1,4 +1,4 @@
-//! Numbers in groups of seven bits: lowest first, the top bit set while more follow, in the shortest form.
+// Numbers in groups of seven bits: lowest first, the top bit set while more follow, in the shortest form.
 ghost use mathlib.Core.Path.{_≡_};
 ghost use Prim.Native.Nat.{_+_, _<_, _≤_, _/_, _%_};
 ghost use lib.ListN.{length};
