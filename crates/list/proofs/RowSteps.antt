@@ -1,22 +1,25 @@
 -- What is told of the row at a place of its list, and the list that is being read. Assumes nothing.
-use mathlib.Core.Path.{_≡_, refl, sym, ap, _∙_}
+use mathlib.Core.Path.{_≡_, refl, sym, ap, _∙_, subst}
 use mathlib.Core.Bool.{Bool, true, false, cond}
+use mathlib.Core.List.{[], _∷_, _++_}
 use mathlib.Core.Option.{none, some}
 use Prim.Native.Nat.{ℕ, zero, suc, _+_, _-_, _<_, _≤_}
 use native.Mathlib.Omega.{arith}
 use borrow.Author.Tests.{ltb-true, ltb-false, leb-true, leb-false}
 use lib.Dec.{leb, ltb}
 use lib.ListN.{length, drop, length-drop}
+use lib.Seq.{getD-drop}
 use Rattle.meaning.specs.Bytes.{Text}
 use Rattle.meaning.specs.Number as meaning
 use Rattle.meaning.specs.Rows as rows
 use Rattle.promises.specs.Facts.{records}
-use Rattle.promises.proofs.Members.{rows-long}
+use Rattle.promises.proofs.Members.{rows-long, need-yes, step-took}
 use Rattle.promises.proofs.Steps.{rows-shrink, list-records}
 use Rattle.number.specs.declared.Number.{Number}
 use Rattle.number.specs.declared.Number.the-variants.{Is, Malformed}
-use Rattle.number.specs.Reading.{Octets, numberAt}
+use Rattle.number.specs.Reading.{largestNumber, Octets, numberAt}
 use Rattle.number.proofs.Answers.{number-stands, number-none}
+use Rattle.number.proofs.Round.{read-only, read-small}
 use Rattle.parse.specs.declared.types.Side.the-variants.{Absent, Part}
 use Rattle.parse.specs.Places.{partAt, Within}
 use Rattle.list.specs.declared.cursor.Cursor.{Cursor}
@@ -29,6 +32,38 @@ use Rattle.list.specs.Rows.{rowMeant, rowPlace, placedRow, rowStepAt, as
 use Rattle.list.proofs.Texts.{TextAt, stands, malformed, text-at, bytes-taken, bytes-short}
 use Rattle.list.proofs.RowStages.{row-stages, none-placed, some-placed, number-spelled}
 use Rattle.list.proofs.Readings.{Reading, reading-starts, reading-whole, reading-refused, reading-more}
+
+-- bytes stay bytes after some were read
+octets-drop : (s : Text) → Octets s → (n : ℕ) → Octets (drop n s)
+octets-drop s o n i = rw (getD-drop n s i 0) (o (n + i))
+
+octets-after : (p s : Text) → Octets (p ++ s) → Octets s
+octets-after [] s o = o
+octets-after (x ∷ p) s o = octets-after p s (λ i. o (suc i))
+
+took-spec : (x y : rows.Row) (a b : Text) → meaning.took x a ≡ meaning.took y b → x .spec ≡ y .spec
+took-spec x y a b e = let q : x ≡ y = cc in ap (λ (r : rows.Row). r .spec) q
+
+-- the spec number of a row that was read is no larger than a number can be
+read-spec : (t : Text) → Octets t → (r : rows.Row) (rest : Text) → rows.readRow t ≡ meaning.took r rest → r .spec ≤ largestNumber
+unfolding rows.readRow
+read-spec t o r rest e =
+    let i = step-took (meaning.readNumber t) _ e in
+    let n = step-took (meaning.readNumber (i .1)) _ (i .3) in
+    let k = step-took (meaning.readNumber (n .1)) _ (n .3) in
+    let src = step-took (meaning.readText (k .1)) _ (k .3) in
+    let dst = step-took (rows.readDestination (src .1)) _ (src .3) in
+    let same : n .0 ≡ r .spec = took-spec (record { item = i .0; spec = n .0; kind = k .0; source = src .0; destination = dst .0 }) r (dst .1) rest (dst .3) in
+    rw (← same) (read-small (i .1) (n .0) (n .1) (octets-after (meaning.numberBytes (i .0)) (i .1) (subst Octets (read-only t (i .0) (i .1) o (i .2)) o)) (n .2))
+
+row-small : (specs : ℕ) (t : Text) → Octets t → (r : rows.Row) (rest : Text) → rows.rowRecord specs 0 t ≡ meaning.took r rest → r .spec ≤ largestNumber
+unfolding rows.rowRecord
+row-small specs t o r rest e =
+    let q = step-took (rows.readRow t) (λ x. meaning.need 16 (rows.rowPasses specs x) (meaning.give x)) e in
+    let y = need-yes 16 (rows.rowPasses specs (q .0)) (meaning.give (q .0)) (q .1) (q .3) in
+    let g : meaning.took (q .0) (q .1) ≡ meaning.took r rest = rw y at (q .3) in
+    let same = took-spec (q .0) r (q .1) rest g in
+    rw (← same) (read-spec t o (q .0) (q .1) (q .2))
 
 -- a row that was found from a place on: its places, and where what is left begins
 record FoundRow (specs : ℕ) (s : Text) (at : ℕ) (r : rows.Row) (rest : Text) : Type 0 where
@@ -140,6 +175,10 @@ module _ (specs : ℕ) (s : Text) where
     unfolding rows.rowRecord
     same-record j t = refl
 
+    small-spec : (row : RowPlace) (r : rows.Row) → rowMeant s row ≡ r → r .spec ≤ largestNumber → row .spec ≤ largestNumber
+    unfolding rowMeant
+    small-spec row r e h = rw (← e) at h
+
     told : (at : ℕ) → at < length s → (w : meaning.Step rows.Row) → rows.rowRecord specs 0 (drop at s) ≡ w → Found specs s at w → RowSays specs s at (placedRow s w)
     told at h (meaning.took r rest) e f =
         let l : length s - length rest ≡ f .next = rw (f .left, length-drop (f .next) s) (omega (arith, f .within)) in
@@ -152,6 +191,7 @@ module _ (specs : ℕ) (s : Text) where
           reads = λ j. same-record j (drop at s) ∙ q;
           src-within = f .src;
           dst-within = f .dst;
+          spec-small = small-spec (f .row) r (f .means) (row-small specs (drop at s) (octets-drop s octets at) r rest e);
           passes = rw (f .means) (f .passes);
           on = on;
           within = f .within;

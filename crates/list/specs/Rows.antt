@@ -8,6 +8,7 @@ use lib.ListN.{length, drop}
 use Rattle.meaning.specs.Bytes.{Text}
 use Rattle.meaning.specs.Number.{Step, took, no, Reader, _>>=_, give, need, readNumber, readText}
 use Rattle.meaning.specs.Rows as meaning
+use Rattle.number.specs.Reading.{largestNumber}
 use Rattle.parse.specs.declared.types.Side.{Side}
 use Rattle.parse.specs.declared.types.Side.the-variants.{Absent, Part}
 use Rattle.parse.specs.Places.{partAt, sideMeant, Within}
@@ -75,6 +76,7 @@ pub record RowTaken (specs : ℕ) (s : Text) (at : ℕ) (row : RowPlace) (next :
   pub reads : (j : ℕ) → meaning.rowRecord specs j (drop at s) ≡ took (rowMeant s row) (drop next s)
   pub src-within : row .«src_at» + row .«src_len» ≤ length s
   pub dst-within : Within (length s) (row .dst)
+  pub spec-small : row .spec ≤ largestNumber
   pub passes : meaning.rowPasses specs (rowMeant s row) ≡ true
   pub on : at < next
   pub within : next ≤ length s

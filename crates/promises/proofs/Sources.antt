@@ -25,7 +25,7 @@ no-differ r q e =
     (eqb-true _ _ (and-left (eqb (r .kind) (q .kind)) _ p), same-is _ _ (and-right (eqb (r .kind) (q .kind)) _ p))
 
 -- what is first seen is there
-seen-in : (l : List Row) {r : Row} → In r (firstSeen l) → In r l
+pub seen-in : (l : List Row) {r : Row} → In r (firstSeen l) → In r l
 seen-in [] m = m
 seen-in (q ∷ l) {r} m = go (seen-in l) (in-cons m)
   where
@@ -96,7 +96,8 @@ module _ (rows : List Row) (d : Text) where
       let k = keep-in (onto d) rows (seen-in (rowsOnto rows d) (q .1)) in
       (q .0, k .0, onto-is d (q .0) (k .1), sym (q .2))
 
-  two-listed : TwoSources rows d → 2 ≤ length (map rowSource (firstSeen (rowsOnto rows d)))
+  -- a conflict lists two sources at least
+  pub two-listed : TwoSources rows d → 2 ≤ length (map rowSource (firstSeen (rowsOnto rows d)))
   two-listed t =
       let a = listed-source (t .first) (t .first-in) (t .first-onto) in
       let b = listed-source (t .second) (t .second-in) (t .second-onto) in

@@ -168,7 +168,7 @@ item-spelled i s b rest h e =
     text-spelled s (q .0) (q .1) h (q .2) ∙ ap (λ (x : Text). textBytes x ++ q .1) u ∙ ap (λ (x : Text). textBytes b ++ x) v
 
 -- a row of a list
-row-record-spelled : (specs i : ℕ) (s : Text) (b : Row) (rest : Text) → every isByte s ≡ true → rowRecord specs i s ≡ took b rest → s ≡ rowBytes b ++ rest
+pub row-record-spelled : (specs i : ℕ) (s : Text) (b : Row) (rest : Text) → every isByte s ≡ true → rowRecord specs i s ≡ took b rest → s ≡ rowBytes b ++ rest
 unfolding rowRecord
 row-record-spelled specs i s b rest h e =
     let q = step-took (readRow s) (λ r. need 16 (rowPasses specs r) (give r)) e in

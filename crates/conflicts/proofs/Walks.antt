@@ -1,0 +1,134 @@
+-- A walk over the rows of a list that was read. Assumes nothing.
+use mathlib.Core.Path.{_≡_, refl, sym, ap, _∙_, subst}
+use mathlib.Core.Bool.{Bool, true, false, cond}
+use mathlib.Core.Logic.{_⊎_, inl, inr}
+use mathlib.Core.List.{List, [], _∷_}
+use mathlib.Core.Option.{Option, none, some}
+use Prim.Native.Nat.{ℕ, zero, suc, _+_, _-_, _≤_, _<_}
+use native.Mathlib.Omega.{arith}
+use native.Mathlib.Numerals.{add-one}
+use borrow.Author.Tests.{eqb-true}
+use lib.Dec.{eqb, ltb}
+use lib.ListN.{length, drop}
+use Rattle.meaning.specs.Bytes.{Text, _and_, _or_}
+use Rattle.meaning.specs.Spec.{accepted, refused}
+use Rattle.meaning.specs.Number.{Step, took, no}
+use Rattle.meaning.specs.Rows as meaning
+use Rattle.promises.proofs.Laws.{and-left, and-right, or-cases}
+use Rattle.parse.specs.declared.types.Side.{Side}
+use Rattle.parse.specs.declared.types.Side.the-variants.{Absent, Part, Head}
+use Rattle.parse.specs.Places.{Within}
+use Rattle.list.specs.declared.cursor.Cursor.{Cursor}
+use Rattle.list.specs.declared.rows.RowPlace.{RowPlace}
+use Rattle.list.specs.declared.rows.RowStep.{RowStep}
+use Rattle.list.specs.declared.rows.RowStep.the-variants.{Row, End, Refused}
+use Rattle.list.specs.Rows.{rowMeant, rowPlace, placedRow, destinationPlace, rowStepAt, RowTaken, RowSays}
+use Rattle.list.proofs.Records.{accepted-within}
+use Rattle.list.proofs.RowWalks.{RowsLeft, rows-left, rows-next, rows-end, rows-refused}
+use Rattle.conflicts.specs.Listed.{rowsIn, RowsRead, InList, RowWithin}
+
+-- where the cursor stands: j rows are behind it
+pub record At (specs : ℕ) (s : Text) (at j : ℕ) : Type 0 where
+  pub left : RowsLeft specs s at j (drop j (rowsIn specs s))
+  pub short : length s ≤ 1048576
+
+rows-short : (specs : ℕ) (s : Text) (l : List meaning.Row) → meaning.readRows specs s ≡ accepted l → length s ≤ 1048576
+unfolding meaning.readRows
+rows-short specs s l e = accepted-within 1048576 (meaning.rowRecord specs) s l e
+
+module _ (specs : ℕ) (s : Text) (r : RowsRead specs s) where
+  pub list-short : length s ≤ 1048576
+  list-short = rows-short specs s (r .list) (r .reads)
+
+  pub at-start : (at : ℕ) → at ≡ 0 → At specs s at 0
+  at-start at e = record { left = rw (e, r .reads) (rows-left specs s (r .list) (r .reads)); short = list-short }
+
+-- what follows the first of those that are left
+pub drop-rest : {A : Type 0} (l : List A) (i : ℕ) (x : A) (rest : List A) → drop i l ≡ x ∷ rest → rest ≡ drop (suc i) l
+drop-rest [] zero x rest e = absurd (let z : _≡_ {A = ℕ} 0 1 = cc in omega arith)
+drop-rest [] (suc i) x rest e = absurd (let z : _≡_ {A = ℕ} 0 1 = cc in omega arith)
+drop-rest (y ∷ l) zero x rest e = cc
+drop-rest (y ∷ l) (suc i) x rest e = drop-rest l i x rest e
+
+-- the row that the cursor hands back is the next one
+pub record Next (specs : ℕ) (s : Text) (row : RowPlace) (next j : ℕ) : Type 0 where
+  pub is : drop j (rowsIn specs s) ≡ rowMeant s row ∷ drop (j + 1) (rowsIn specs s)
+  pub there : At specs s next (j + 1)
+
+-- no row's destination is the supplied `HEAD`
+placed-not-head : (end : ℕ) (o : Option Text) → destinationPlace end o ≡ Head → ⊥
+placed-not-head end none e = let z : _≡_ {A = ℕ} 0 1 = cc in omega arith
+placed-not-head end (some t) e = let z : _≡_ {A = ℕ} 0 1 = cc in omega arith
+
+row-is : (s : Text) (st : Step meaning.Row) (row : RowPlace) (next : Cursor) → Row row next ≡ placedRow s st → row .dst ≡ Head → ⊥
+unfolding rowPlace
+row-is s (took r rest) row next e h =
+    let q : row ≡ rowPlace (length s - length rest) r = cc in
+    placed-not-head (length s - length rest) (r .destination) (sym (ap (λ (p : RowPlace). p .dst) q) ∙ h)
+row-is s (no n) row next e h = let z : _≡_ {A = ℕ} 0 1 = cc in omega arith
+
+stands-not-head : (specs : ℕ) (s : Text) (at : ℕ) (row : RowPlace) (next : Cursor) → Row row next ≡ rowStepAt specs s at → row .dst ≡ Head → ⊥
+unfolding rowStepAt
+stands-not-head specs s at row next e h = go (ltb at (length s)) e
+  where
+    go : (b : Bool) → Row row next ≡ cond b (placedRow s (meaning.rowRecord specs 0 (drop at s))) End → ⊥
+    go true f = row-is s (meaning.rowRecord specs 0 (drop at s)) row next f h
+    go false f = let z : _≡_ {A = ℕ} 0 1 = cc in omega arith
+
+within-list : (len : ℕ) (side : Side) → Within len side → (side ≡ Head → ⊥) → InList len side
+within-list len Absent w h = tt
+within-list len (Part at n) w h = w
+within-list len Head w h = h refl
+
+-- a kind that passed is 0 or 1
+kind-passed : (k : ℕ) (b : Bool) → (eqb k 0 or (eqb k 1 and b)) ≡ true → k ≤ 1
+kind-passed k b e = go (or-cases (eqb k 0) (eqb k 1 and b) e)
+  where
+    go : (eqb k 0 ≡ true) ⊎ ((eqb k 1 and b) ≡ true) → k ≤ 1
+    go (inl p) = omega (arith, eqb-true k 0 p)
+    go (inr p) = omega (arith, eqb-true k 1 (and-left (eqb k 1) b p))
+
+kind-of : (specs : ℕ) (s : Text) (row : RowPlace) → meaning.rowPasses specs (rowMeant s row) ≡ true → row .kind ≤ 1
+unfolding meaning.rowPasses rowMeant
+kind-of specs s row e = kind-passed (row .kind) _ (and-right (ltb (row .spec) specs) _ e)
+
+module _ (specs : ℕ) (s : Text) (at j : ℕ) (a : At specs s at j) (w : RowStep) (stands : w ≡ rowStepAt specs s at) (says : RowSays specs s at w) where
+  module _ (row : RowPlace) (next : Cursor) (e : w ≡ Row row next) where
+    taken : RowTaken specs s at row (next .at)
+    taken = rw e at says
+
+    pub next-row : Next specs s row (next .at) j
+    next-row =
+        let n = rows-next specs s at j (drop j (rowsIn specs s)) (a .left) w says row next e in
+        let d = drop-rest (rowsIn specs s) j (rowMeant s row) (n .after) (n .is) in
+        record {
+          is = rw (add-one j) (n .is ∙ ap (λ (l : List meaning.Row). rowMeant s row ∷ l) d);
+          there = record { left = rw (add-one j) (subst (RowsLeft specs s (next .at) (suc j)) d (n .left)); short = a .short };
+        }
+
+    pub next-at : At specs s (next .at) (j + 1)
+    next-at = next-row .there
+
+    pub next-within : RowWithin (length s) row
+    next-within =
+        record {
+          source-within = taken .src-within;
+          destination-within = within-list (length s) (row .dst) (taken .dst-within) (stands-not-head specs s at row next (sym e ∙ stands));
+          spec-small = taken .spec-small;
+          kind-small = kind-of specs s row (taken .passes);
+        }
+
+    pub next-destination : InList (length s) (row .dst)
+    next-destination = next-within .destination-within
+
+    -- the cursor moves on
+    pub moves-on : length s - next .at < length s - at
+    moves-on = omega (arith, taken .on, taken .within)
+
+  -- at the end no row is left
+  pub end-row : w ≡ End → drop j (rowsIn specs s) ≡ []
+  end-row e = rows-end specs s at j (drop j (rowsIn specs s)) (a .left) w says e
+
+  -- no row of the list is refused
+  pub refused-row : (n : ℕ) → w ≡ Refused n → drop j (rowsIn specs s) ≡ []
+  refused-row n e = rows-refused specs s at j (drop j (rowsIn specs s)) (a .left) w says n e

@@ -1,0 +1,48 @@
+-- The rows of a row list that was read, as places in it, and the bytes of their conflicts.
+use Prim.Native.Nat.{ℕ, _+_, _≤_}
+use mathlib.Core.Path.{_≡_}
+use mathlib.Core.Bool.{cond}
+use mathlib.Core.List.{List, []}
+use Rattle.meaning.specs.Bytes.{Text, each}
+use Rattle.meaning.specs.Spec.{Answer, accepted, refused}
+use Rattle.meaning.specs.Rows.{Row, readRows}
+use Rattle.meaning.specs.Validation.{inConflict, conflictOn, conflicts, conflictBytes}
+use Rattle.number.specs.Reading.{largestNumber}
+use Rattle.parse.specs.declared.types.Side.{Side}
+use Rattle.parse.specs.declared.types.Side.the-variants.{Absent, Part, Head}
+use Rattle.list.specs.declared.rows.RowPlace.{RowPlace}
+
+-- the rows that an answer accepts; none where it refuses
+abbrev pub rowsOf : Answer (List Row) → List Row
+rowsOf (accepted l) = l
+rowsOf (refused n r) = []
+
+-- the rows of a row list under so many specs
+abbrev pub rowsIn : ℕ → Text → List Row
+rowsIn specs s = rowsOf (readRows specs s)
+
+-- the row list was read
+pub record RowsRead (specs : ℕ) (s : Text) : Type 0 where
+  pub list : List Row
+  pub reads : readRows specs s ≡ accepted list
+
+-- the bytes of the conflicts of rows
+unfoldable pub conflictsBytes : List Row → Text
+conflictsBytes rows = each (conflicts rows) conflictBytes
+
+-- the bytes of the conflict on a destination, if it is in conflict
+unfoldable pub conflictPart : List Row → Text → Text
+conflictPart rows d = cond (inConflict rows d) (conflictBytes (conflictOn rows d)) []
+
+-- a destination stands within so many bytes, or is absent; no row's destination is the supplied `HEAD`
+abbrev pub InList : ℕ → Side → Type 0
+InList len Absent = Unit {0}
+InList len (Part at n) = at + n ≤ len
+InList len Head = ⊥
+
+-- the texts of a row stand within so many bytes, and its numbers can be written
+pub record RowWithin (len : ℕ) (row : RowPlace) : Type 0 where
+  pub source-within : row .«src_at» + row .«src_len» ≤ len
+  pub destination-within : InList len (row .dst)
+  pub spec-small : row .spec ≤ largestNumber
+  pub kind-small : row .kind ≤ 1
