@@ -49,8 +49,8 @@ enum vasigmon_operation {
 /* Why a call was refused: the first question that is answered by no gives the
  * number. 18 comes before all others. Of one spec, the questions are asked in this
  * order. Of lists, 12 comes first; then of each record in turn 14, then 13, then a
- * spec's own questions, or 15 of an item. The spec list is read wholly before the
- * items are looked at. 17 comes last. */
+ * spec's own questions, or 15 of an item; of a row 13, then 16. The spec list is read
+ * wholly before the items or the rows are looked at. 17 comes last. */
 enum vasigmon_refusal {
     VASIGMON_ACCEPTED = 0,               /* no refusal: the answer is a result */
     VASIGMON_SPEC_TOO_LONG = 1,          /* the spec is above 4,096 bytes */
@@ -64,7 +64,7 @@ enum vasigmon_refusal {
     VASIGMON_ONE_STAR_OF_TWO = 9,        /* one side has a star and the other has none */
     VASIGMON_NEGATIVE_EMPTY = 10,        /* no source follows `^` */
     VASIGMON_NEGATIVE_OBJECT = 11,       /* the source after `^` is forty or more bytes, all hexadecimal digits */
-    VASIGMON_LIST_TOO_LONG = 12,         /* a spec list or an item list is above 65,535 bytes */
+    VASIGMON_LIST_TOO_LONG = 12,         /* a spec list or an item list is above 65,535 bytes, or a row list above 1,048,576 */
     VASIGMON_MALFORMED = 13,             /* the record is not well formed within its list */
     VASIGMON_TOO_MANY_RECORDS = 14,      /* the record is beyond 256 specs or 1,024 items */
     VASIGMON_NAME_TOO_LONG = 15,         /* the item's name is above 4,096 bytes */
@@ -198,6 +198,46 @@ vasigmon_written vasigmon_match_lhs(uint64_t op, const uint8_t *specs, size_t sp
 vasigmon_written vasigmon_match_rhs(uint64_t op, const uint8_t *specs, size_t specs_len,
                                     const uint8_t *items, size_t items_len,
                                     uint8_t *out, size_t out_len);
+
+/* What the validation of rows did with the two output buffers it was lent: one
+ * for rows or conflicts, and one for fixes.
+ *
+ * With refusal 0, `length` bytes stand at the start of `out` and `fixes_length`
+ * bytes at the start of `fixes`; the bytes beyond them are as they were. Where
+ * `conflicts` is 1 the whole of `fixes` is as it was. With any refusal both buffers
+ * are as they were. Beside VASIGMON_BUFFER_TOO_SHORT, `buffer` tells which is short
+ * and `length` is the length of a buffer that will do in its place: at least what is
+ * needed and at most twice that. */
+typedef struct vasigmon_validation {
+    uint64_t refusal;
+    uint64_t record;                     /* as in vasigmon_written */
+    uint64_t conflicts;                  /* 1 where out holds conflicts, 0 where it holds kept rows and fixes holds fixes */
+    uint64_t length;
+    uint64_t fixes_length;
+    uint64_t buffer;                     /* beside 17 the short buffer: 1 out, 2 fixes */
+} vasigmon_validation;
+
+/* Validates a list of rows, as vasigmon_match_lhs and vasigmon_match_rhs write them,
+ * under the list of specs that their numbers are of. A row list has at most 1,048,576
+ * bytes. A row whose spec number is not in the list, whose kind is not 0 or 1, or
+ * whose object id is not forty digits in lower case gives 16.
+ *
+ * A destination on which two rows put different sources is in conflict. Where some
+ * are, `out` holds the conflicts, in byte order of destination. A conflict is: the
+ * destination's length and bytes; how many sources it has; and for each source, in
+ * the order in which the rows first have it, the spec number of that row, the
+ * source's kind, its length and its bytes. `fixes` is not asked then, and may be of
+ * length 0.
+ *
+ * Where none are, `out` holds the rows in their order, without those whose
+ * destination neither begins `refs/` nor is `HEAD`, and `fixes` holds for each of
+ * these, in the order of the rows, the destination's length, its bytes and the spec's
+ * number. `out` is asked first, then `fixes`, and nothing is written unless both are
+ * long enough. */
+vasigmon_validation vasigmon_validated(uint64_t op, const uint8_t *specs, size_t specs_len,
+                                       const uint8_t *rows, size_t rows_len,
+                                       uint8_t *out, size_t out_len,
+                                       uint8_t *fixes, size_t fixes_len);
 
 /* The lists that a part may be of. */
 enum vasigmon_list {

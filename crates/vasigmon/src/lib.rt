@@ -1,8 +1,8 @@
 // The C interface: include/vasigmon.h declares what stands here. Each entry hands its arguments to the function behind it and gives the
 // answer as plain numbers; no entry asks anything of its caller.
 ghost use mathlib.Core.Path.{_≡_};
-ghost use Rattle.meaning.specs.Buffers.{MeetsOne};
-ghost use Rattle.meaning.specs.Entries.{toBstring, expanded, matchLhs, matchRhs};
+ghost use Rattle.meaning.specs.Buffers.{MeetsOne, MeetsTwo};
+ghost use Rattle.meaning.specs.Entries.{toBstring, expanded, matchLhs, matchRhs, validated};
 ghost use Rattle.meaning.specs.View.{sourceView};
 ghost use Rattle.parse.specs.Places.{parsed};
 ghost use Rattle.refspec.specs.Instructions.{instructed};
@@ -22,6 +22,8 @@ use parse::parse;
 use prefixes::group_prefixes;
 use refspec::spec::instruction;
 use refspec::spec::prefix;
+use validate::Validation;
+use validate::validated;
 use view::Part;
 use view::source;
 use write::canonical::to_bstring;
@@ -90,6 +92,20 @@ pub extern "C" fn vasigmon_match_rhs(op: u64, specs: &[u8], items: &[u8], out: &
     ensures { λ w. ⌜ MeetsOne (matchRhs op (now (specs .entry)) (now (items .entry))) (now (out .entry)) (now (out .exit)) (w .refusal) (w .record) (w .length) ⌝ }
 {
     match_rhs(op, specs, items, out)
+}
+
+// The validation of a row list under the specs: conflicts in `out`, or kept rows in `out` and fixes in `fixes`.
+#[no_mangle]
+pub extern "C" fn vasigmon_validated(
+    op: u64,
+    specs: &[u8],
+    rows: &[u8],
+    out: &mut [u8],
+    fixes: &mut [u8],
+) -> Validation
+    ensures { λ w. ⌜ MeetsTwo (validated op (now (specs .entry)) (now (rows .entry))) (now (out .entry)) (now (fixes .entry)) (now (out .exit)) (now (fixes .exit)) (w .refusal) (w .record) (w .conflicts) (w .length) (w .«fixes_length») (w .buffer) ⌝ }
+{
+    validated(op, specs, rows, out, fixes)
 }
 
 // The source view of a forward row's item field and spec number, as a part of one of the two lists.

@@ -1,0 +1,54 @@
+-- Each list is read wholly, and then the rows are judged. Assumes nothing.
+use Rattle.validate.proofs.Entry.{specs-refused, rows-refused, rows-judged, rows-read}
+use borrow.Author.Needs.{needs}
+use Rattle.validate.proofs.validated.Statement.{statement}
+use Rattle.validate.proofs.validated.Tie as tie
+use Rattle.list.proofs.rows.read_rows.Reads as read-rows-reads
+use Rattle.list.proofs.specs.read_specs.Reads as read-specs-reads
+use Rattle.validate.proofs.judged.Reads as judged-reads
+use Rattle.validate.proofs.refused.Reads as refused-reads
+
+read-specs-requires : tie.Need-read-specs-requires
+read-specs-requires c κs = search needs
+
+refused-requires : tie.Need-refused-requires
+refused-requires c κs = search needs
+
+returns : tie.Need-returns
+returns c = search specs-refused
+
+read-rows-requires : tie.Need-read-rows-requires
+read-rows-requires c κs = search needs
+
+refused-requires-2 : tie.Need-refused-requires-2
+refused-requires-2 c κs = search needs
+
+returns-2 : tie.Need-returns-2
+returns-2 c = search rows-refused
+
+judged-requires : tie.Need-judged-requires
+judged-requires c κs = search rows-read
+
+same-length : tie.Need-same-length
+same-length c = search needs
+
+same-length-2 : tie.Need-same-length-2
+same-length-2 c = search needs
+
+returns-3 : tie.Need-returns-3
+returns-3 c = search rows-judged
+
+pub validated-spec : {M : Type 1} → statement M
+validated-spec =
+    tie.close
+    (tie.spec
+    read-specs-requires
+    refused-requires
+    returns
+    read-rows-requires
+    refused-requires-2
+    returns-2
+    judged-requires
+    same-length
+    same-length-2
+    returns-3)

@@ -1,0 +1,126 @@
+// The validation of a row list: its conflicts, or its kept rows and its fixes. Port of the crate's match_group/validate.rs.
+ghost use mathlib.Core.Path.{_≡_};
+ghost use mathlib.Core.List.{[]};
+ghost use Rattle.meaning.specs.Spec.{accepted};
+ghost use Rattle.meaning.specs.Validation.{conflicts, verdict};
+ghost use Rattle.meaning.specs.Entries.{verdictBytes, validated};
+ghost use Rattle.meaning.specs.Buffers.{MeetsTwo};
+ghost use Rattle.conflicts.specs.Listed.{rowsIn, RowsRead};
+ghost use Rattle.validate.specs.Answers.{refusedWith, shortOf};
+
+pub mod kept;
+
+use conflicts::conflicts_size;
+use conflicts::put_conflicts;
+use kept::fixes_size;
+use kept::kept_size;
+use kept::put_fixes;
+use kept::put_kept;
+use list::rows::read_rows;
+use list::specs::read_specs;
+
+// What a call tells beside its buffers: a refusal's number or 0; the record that it carries; 1 where the first buffer holds conflicts; how
+// many bytes it holds, or beside 17 the length for the short buffer; how many the fix buffer holds; and beside 17 the short buffer, 1 the
+// first or 2 that for fixes. A field without a meaning is 0.
+#[repr(C)]
+pub struct Validation {
+    pub refusal: u64,
+    pub record: u64,
+    pub conflicts: u64,
+    pub length: u64,
+    pub fixes_length: u64,
+    pub buffer: u64,
+}
+
+// A call that is refused for what it was lent.
+fn refused(refusal: u64, record: u64) -> Validation
+    ensures { λ w. ⌜ w ≡ refusedWith refusal «record» ⌝ }
+{
+    Validation {
+        refusal,
+        record,
+        conflicts: 0,
+        length: 0,
+        fixes_length: 0,
+        buffer: 0,
+    }
+}
+
+// A call whose buffer is too short for so many bytes.
+fn short(buffer: u64, needed: usize) -> Validation
+    ensures { λ w. ⌜ w ≡ shortOf buffer needed ⌝ }
+{
+    Validation {
+        refusal: 17,
+        record: 0,
+        conflicts: 0,
+        length: needed as u64,
+        fixes_length: 0,
+        buffer,
+    }
+}
+
+// Rows without conflicts: those that are kept, and the fixes of the others. Both buffers are asked before one is written.
+fn passed(rows: &[u8], specs: usize, out: &mut [u8], fixes: &mut [u8]) -> Validation
+    requires { ⌜ RowsRead specs (now rows) × (conflicts (rowsIn specs (now rows)) ≡ []) ⌝ }
+    ensures { λ w. ⌜ MeetsTwo (accepted (verdictBytes (verdict (rowsIn specs (now (rows .entry)))))) (now (out .entry)) (now (fixes .entry)) (now (out .exit)) (now (fixes .exit)) (w .refusal) (w .record) (w .conflicts) (w .length) (w .«fixes_length») (w .buffer) ⌝ }
+{
+    let kept = kept_size(rows, specs);
+    let fixed = fixes_size(rows, specs);
+    if out.len() < kept {
+        return short(1, kept);
+    }
+    if fixes.len() < fixed {
+        return short(2, fixed);
+    }
+    put_kept(out, rows, specs);
+    put_fixes(fixes, rows, specs);
+    Validation {
+        refusal: 0,
+        record: 0,
+        conflicts: 0,
+        length: kept as u64,
+        fixes_length: fixed as u64,
+        buffer: 0,
+    }
+}
+
+// Rows that were read: conflicts are looked for before a row goes out. The fix buffer is left alone where there are any.
+fn judged(rows: &[u8], specs: usize, out: &mut [u8], fixes: &mut [u8]) -> Validation
+    requires { ⌜ RowsRead specs (now rows) ⌝ }
+    ensures { λ w. ⌜ MeetsTwo (accepted (verdictBytes (verdict (rowsIn specs (now (rows .entry)))))) (now (out .entry)) (now (fixes .entry)) (now (out .exit)) (now (fixes .exit)) (w .refusal) (w .record) (w .conflicts) (w .length) (w .«fixes_length») (w .buffer) ⌝ }
+{
+    let size = conflicts_size(rows, specs);
+    if size == 0 {
+        return passed(rows, specs, out, fixes);
+    }
+    if out.len() < size {
+        return short(1, size);
+    }
+    put_conflicts(out, rows, specs);
+    Validation {
+        refusal: 0,
+        record: 0,
+        conflicts: 1,
+        length: size as u64,
+        fixes_length: 0,
+        buffer: 0,
+    }
+}
+
+// Validates a row list under a spec list: conflicts go to `out`, or kept rows to `out` and fixes to `fixes`.
+pub fn validated(op: u64, specs: &[u8], rows: &[u8], out: &mut [u8], fixes: &mut [u8]) -> Validation
+    ensures { λ w. ⌜ MeetsTwo (validated op (now (specs .entry)) (now (rows .entry))) (now (out .entry)) (now (fixes .entry)) (now (out .exit)) (now (fixes .exit)) (w .refusal) (w .record) (w .conflicts) (w .length) (w .«fixes_length») (w .buffer) ⌝ }
+{
+    let g = read_specs(op, specs);
+    let refusal = g.refusal;
+    if refusal != 0 {
+        return refused(refusal, g.record);
+    }
+    let n = g.count;
+    let c = read_rows(rows, n);
+    if c.refusal != 0 {
+        return refused(c.refusal, c.record);
+    }
+    judged(rows, n, out, fixes)
+}
