@@ -8,7 +8,7 @@ use native.Mathlib.Omega.{arith}
 use borrow.Author.Tests.{le-leb, lt-leb, leb-true}
 use lib.Dec.{leb}
 use lib.ListN.{length, take, drop, length-append, length-drop}
-use lib.Seq.{drop-drop}
+use lib.Seq.{drop-drop, length-take-le}
 use Rattle.meaning.specs.Bytes.{Text, bytes, each}
 use Rattle.meaning.specs.Limits.{programBytes}
 use Rattle.meaning.specs.Spec.{Answer, accepted, refused, Spec}
@@ -101,6 +101,14 @@ printed-short specs items = go (readSpecs 0 specs) (readItems items)
     go (refused n r) b = refusal-short n r
     go (accepted group) (refused n r) = refusal-short n r
     go (accepted group) (accepted names) = limit-short (header ++ each (forwardRows group names) rowLine)
+
+-- what two lists print
+pub printed-within : (specs items d o : Text) (r : ℕ) → Prints (output (printed specs items)) d o r → r ≤ 65536
+printed-within specs items d o r p = omega (arith, printed-short specs items, p .size-is)
+
+-- it is as long as the part of its buffer
+pub printed-part : (specs items d o : Text) (r : ℕ) → Prints (output (printed specs items)) d o r → length o ≡ 65536 → length (take r o) ≡ r
+printed-part specs items d o r p e = length-take-le r o (omega (arith, printed-within specs items d o r p))
 
 deliveries-short : (s : Text) → length (deliveries s) ≤ 65536
 unfolding deliveries

@@ -18,8 +18,9 @@ use rows::print_rows;
 // Document 01's limit on the input and on the printed text.
 pub const PROGRAM_BYTES: usize = 65536;
 
-// Prints what a spec list and an item list give; their rows are put together in `rows`.
-fn print_lists(specs: &[u8], items: &[u8], rows: &mut [u8], out: &mut [u8]) -> usize
+// Prints what a spec list and an item list give at the start of `out`, and answers how many bytes it printed; their rows are put together
+// in `rows`.
+pub fn print_lists(specs: &[u8], items: &[u8], rows: &mut [u8], out: &mut [u8]) -> usize
     requires { ⌜ Lent (now rows) (now out) ⌝ }
     ensures { λ r. ⌜ Prints (output (printed (now (specs .entry)) (now (items .entry)))) (now (out .entry)) (now (out .exit)) r ⌝ }
 {

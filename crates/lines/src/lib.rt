@@ -1,13 +1,14 @@
-// A line of text as a person writes it: nothing, a spec for fetch or push, or neither.
+// A line of text as a person writes it: nothing, a spec for fetch or push, a name, or none of these.
 ghost use mathlib.Core.Path.{_≡_};
 ghost use Rattle.meaning.specs.Bytes.{every};
-ghost use Rattle.lines.specs.Line.{blankByte, lineOf};
+ghost use Rattle.lines.specs.Line.{blankByte, Tells};
 
-// What a line holds; a spec is the rest of its line from a place on.
+// What a line holds; a spec or a name is the rest of its line from a place on.
 pub enum Line {
     Nothing,
     Fetch(usize),
     Push(usize),
+    Name(usize),
     Unknown,
 }
 
@@ -37,7 +38,7 @@ fn all_blank(line: &[u8]) -> bool
 
 // What a line holds.
 pub fn classify(line: &[u8]) -> Line
-    ensures { λ r. ⌜ r ≡ lineOf (now (line .entry)) ⌝ }
+    ensures { λ r. ⌜ Tells (now (line .entry)) r ⌝ }
 {
     if all_blank(line) {
         return Line::Nothing;
@@ -50,6 +51,9 @@ pub fn classify(line: &[u8]) -> Line
     }
     if text::begins(line, b"push ") {
         return Line::Push(5);
+    }
+    if text::begins(line, b"name ") {
+        return Line::Name(5);
     }
     Line::Unknown
 }

@@ -1,23 +1,20 @@
-// Reads specs as lines of text, `fetch SPEC` or `push SPEC`, and prints what each becomes. Blank lines and lines that begin with `#` are
-// passed over.
+// Reads specs as lines of text, `fetch SPEC` or `push SPEC`, and prints what each becomes. Blank lines, lines that begin with `#` and
+// names are passed over.
 ghost use Prim.Native.Nat.{_≤_};
 ghost use lib.ListN.{length};
 use libc::STDIN_FILENO;
 use lines::Line;
 use lines::classify;
 
-mod print;
 mod show;
 
-use print::say;
-use print::say_number;
 use show::show_spec;
+use words::print::say;
+use words::say_line;
 
 // Names a line and says what is wrong with it.
 fn complain(number: u64, what: &[u8]) {
-    say(b"line ");
-    say_number(number);
-    say(b": ");
+    say_line(number);
     say(what);
     say(b"\n");
 }
@@ -28,6 +25,7 @@ fn show_line(number: u64, line: &[u8]) {
         Line::Nothing => (),
         Line::Fetch(start) => show_from(number, 0, line, start),
         Line::Push(start) => show_from(number, 1, line, start),
+        Line::Name(_) => (),
         Line::Unknown => complain(number, b"neither `fetch SPEC` nor `push SPEC`"),
     }
 }

@@ -1,7 +1,4 @@
 // What a spec becomes, in words: its instruction, its sides, its canonical text, its prefix and the prefixes that it yields.
-use super::print::say;
-use super::print::say_number;
-use super::print::say_text;
 use number::Number;
 use parse::types::Side;
 use refspec::instruction::Instruction;
@@ -9,43 +6,27 @@ use refspec::spec::Instructed;
 use refspec::spec::Prefixed;
 use refspec::spec::instruction;
 use refspec::spec::prefix;
+use words::print::say;
+use words::print::say_number;
+use words::print::say_text;
+use words::say_line;
+use words::say_reason;
 use write::canonical::to_bstring;
 use write::prefixes::expand_prefixes;
 
-// Says in words why a spec is refused.
-fn say_refusal(n: u64) {
-    match n {
-        1 => say(b"the spec is above 4,096 bytes"),
-        2 => say(b"a push spec is empty"),
-        3 => say(b"a spec with `^` has a colon"),
-        4 => say(b"a push has a colon and a source, and no destination"),
-        5 => say(b"the source has more than one star"),
-        6 => say(b"the source does not pass the name rules"),
-        7 => say(b"the destination has more than one star"),
-        8 => say(b"the destination does not pass the name rules"),
-        9 => say(b"one side has a star and the other has none"),
-        10 => say(b"no source follows `^`"),
-        11 => say(b"the source after `^` is forty or more hexadecimal digits"),
-        _ => say(b"it is refused"),
-    }
-}
-
 // Names a line whose spec is refused.
 fn show_refusal(number: u64, n: u64) {
-    say(b"line ");
-    say_number(number);
-    say(b": refused ");
+    say_line(number);
+    say(b"refused ");
     say_number(n);
     say(b", ");
-    say_refusal(n);
+    say_reason(n);
     say(b"\n");
 }
 
 // Begins the block of a line.
 fn show_head(number: u64, what: &[u8], force: bool) {
-    say(b"line ");
-    say_number(number);
-    say(b": ");
+    say_line(number);
     say(what);
     if force {
         say(b", forced");

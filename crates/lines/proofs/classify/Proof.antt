@@ -1,5 +1,5 @@
 -- Each branch is one kind of line. Assumes nothing.
-use Rattle.lines.proofs.Laws.{line-blank, line-comment, line-fetch, line-push, line-unknown}
+use Rattle.lines.proofs.Laws.{line-blank, line-comment, line-fetch, line-push, line-name, line-unknown}
 use borrow.Author.Needs.{needs}
 use Rattle.lines.proofs.classify.Statement.{statement}
 use Rattle.lines.proofs.classify.Tie as tie
@@ -37,8 +37,17 @@ begins-requires-3 c κs = search needs
 returns-4 : tie.Need-returns-4
 returns-4 c = search line-push
 
+slice-aggregate-begins-4 : tie.Need-slice-aggregate-begins-4
+slice-aggregate-begins-4 c = search needs
+
+begins-requires-4 : tie.Need-begins-requires-4
+begins-requires-4 c κs = search needs
+
 returns-5 : tie.Need-returns-5
-returns-5 c = search line-unknown
+returns-5 c = search line-name
+
+returns-6 : tie.Need-returns-6
+returns-6 c = search line-unknown
 
 pub classify-spec : {M : Type 1} → statement M
 classify-spec =
@@ -55,4 +64,7 @@ classify-spec =
     slice-aggregate-begins-3
     begins-requires-3
     returns-4
-    returns-5)
+    slice-aggregate-begins-4
+    begins-requires-4
+    returns-5
+    returns-6)

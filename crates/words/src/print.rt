@@ -2,12 +2,12 @@
 use libc::STDOUT_FILENO;
 
 // Prints bytes as they are.
-pub(crate) fn say(t: &[u8]) {
+pub fn say(t: &[u8]) {
     io::write_all(STDOUT_FILENO, t);
 }
 
 // Prints a number in decimal.
-pub(crate) fn say_number(n: u64) {
+pub fn say_number(n: u64) {
     io::print_decimal(STDOUT_FILENO, n);
 }
 
@@ -43,7 +43,7 @@ fn say_byte(b: u8) {
 }
 
 // Prints a text.
-pub(crate) fn say_text(t: &[u8]) {
+pub fn say_text(t: &[u8]) {
     let mut i = 0;
     while i < t.len() {
         say_byte(t[i]);

@@ -1,0 +1,55 @@
+-- `listing::show` meets its contract: the lists stand in their buffers.
+use native.Mathlib.Omega.{arith}
+use lib.ListN.{length-take}
+use borrow.Author.Needs.{needs}
+use Rattle.listing.proofs.show.Statement.{statement}
+use Rattle.listing.proofs.show.Tie as tie
+
+slice-aggregate-gather : tie.Need-slice-aggregate-gather
+slice-aggregate-gather c = search needs
+
+slice-aggregate-gather-2 : tie.Need-slice-aggregate-gather-2
+slice-aggregate-gather-2 c = search needs
+
+gather-requires : tie.Need-gather-requires
+gather-requires c κs = search needs
+
+show-refused-requires : tie.Need-show-refused-requires
+show-refused-requires c κs = search needs
+
+returns : tie.Need-returns
+returns c = search needs
+
+array-share-prefix-specs : tie.Need-array-share-prefix-specs
+array-share-prefix-specs c = search needs
+
+slice-aggregate-show-lists : tie.Need-slice-aggregate-show-lists
+slice-aggregate-show-lists c = simp length-take (omega arith)
+
+array-share-prefix-items : tie.Need-array-share-prefix-items
+array-share-prefix-items c = search needs
+
+slice-aggregate-show-lists-2 : tie.Need-slice-aggregate-show-lists-2
+slice-aggregate-show-lists-2 c = simp length-take (omega arith)
+
+show-lists-requires : tie.Need-show-lists-requires
+show-lists-requires c κs = search needs
+
+returns-2 : tie.Need-returns-2
+returns-2 c = search needs
+
+pub show-spec : {M : Type 1} → statement M
+show-spec =
+    tie.close
+    (tie.spec
+    slice-aggregate-gather
+    slice-aggregate-gather-2
+    gather-requires
+    show-refused-requires
+    returns
+    array-share-prefix-specs
+    slice-aggregate-show-lists
+    array-share-prefix-items
+    slice-aggregate-show-lists-2
+    show-lists-requires
+    returns-2)
