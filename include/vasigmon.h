@@ -25,7 +25,8 @@
  * set while more follow, in its shortest form and in at most three groups. A list
  * of specs, items or prefixes holds for each record its length, then its bytes.
  * Records count from 0. A spec list has at most 256 records, an item list 1,024,
- * and each at most 65,535 bytes; a name has at most 4,096.
+ * and each at most 65,535 bytes; a name has at most 4,096. A list of rows, which
+ * vasigmon_match_lhs describes, has at most 1,048,576 bytes.
  *
  * Link with libvasigmon.a, which `rt staticlib vasigmon` writes to
  * target/staticlib/. It needs nothing beyond the C library.
@@ -69,7 +70,7 @@ enum vasigmon_refusal {
     VASIGMON_TOO_MANY_RECORDS = 14,      /* the record is beyond 256 specs or 1,024 items */
     VASIGMON_NAME_TOO_LONG = 15,         /* the item's name is above 4,096 bytes */
     VASIGMON_OUTSIDE_THE_LISTS = 16,     /* a number is outside the lists, or no object id stands where one must */
-    VASIGMON_BUFFER_TOO_SHORT = 17,      /* the output buffer is not long enough for the whole answer */
+    VASIGMON_BUFFER_TOO_SHORT = 17,      /* an output buffer is not long enough for the whole answer */
     VASIGMON_NO_SUCH_OPERATION = 18      /* the operation is neither 0 nor 1 */
 };
 

@@ -213,6 +213,81 @@ static void views(void)
     expect(memcmp(&part, &outside, sizeof part) == 0, "a spec that is not in the list");
 }
 
+/* Whether validation was refused like this. */
+static int turned_down(vasigmon_validation answer, uint64_t refusal, uint64_t record)
+{
+    return answer.refusal == refusal && answer.record == record && answer.conflicts == 0 && answer.length == 0
+        && answer.fixes_length == 0 && answer.buffer == 0;
+}
+
+static void validation(void)
+{
+    /* Row 0 has no destination, row 1 a partial one, row 2 a full one. */
+    static const char rows[] = "\1\0\0\1a\0" "\1\1\0\1a\2b" "\1\0\0\1a\7refs/b";
+    static const char kept[] = "\1\0\0\1a\0" "\1\0\0\1a\7refs/b";
+    static const char fixed[] = "\1b\1";
+    size_t need = sizeof kept - 1, need_fixes = sizeof fixed - 1;
+    uint8_t out[64], fixes[64];
+    vasigmon_validation answer;
+
+    memset(out, '#', sizeof out);
+    memset(fixes, '#', sizeof fixes);
+    answer = vasigmon_validated(VASIGMON_FETCH, bytes(SPECS), SPECS_LEN, bytes(rows), sizeof rows - 1,
+                                out, need - 1, fixes, need_fixes - 1);
+    expect(answer.refusal == VASIGMON_BUFFER_TOO_SHORT && answer.buffer == 1, "two short buffers: the first is told");
+    expect(answer.length >= need && answer.length <= 2 * need, "a length for the rows");
+    answer = vasigmon_validated(VASIGMON_FETCH, bytes(SPECS), SPECS_LEN, bytes(rows), sizeof rows - 1,
+                                out, need, fixes, need_fixes - 1);
+    expect(answer.refusal == VASIGMON_BUFFER_TOO_SHORT && answer.buffer == 2, "a short buffer for the fixes");
+    expect(answer.length >= need_fixes && answer.length <= 2 * need_fixes, "a length for the fixes");
+    expect(out[0] == '#' && fixes[0] == '#', "no row and no fix is written on refusal");
+
+    answer = vasigmon_validated(VASIGMON_FETCH, bytes(SPECS), SPECS_LEN, bytes(rows), sizeof rows - 1,
+                                out, sizeof out, fixes, sizeof fixes);
+    expect(answer.refusal == VASIGMON_ACCEPTED && answer.conflicts == 0, "rows that pass");
+    expect(answer.record == 0 && answer.buffer == 0, "no record and no short buffer");
+    expect(answer.length == need && memcmp(out, kept, need) == 0, "the kept rows");
+    expect(answer.fixes_length == need_fixes && memcmp(fixes, fixed, need_fixes) == 0, "the fixes");
+    expect(out[need] == '#' && fixes[need_fixes] == '#', "no byte beyond rows and fixes");
+}
+
+static void conflicts(void)
+{
+    static const char rows[] = "\0\1\0\1b\2x" "\0\0\0\1a\2x" "\0\2\0\1b\2x";
+    static const char found[] = "\1x\2" "\1\0\1b" "\0\0\1a";
+    size_t need = sizeof found - 1;
+    uint8_t out[64], fixes[1] = { '#' };
+    vasigmon_validation answer;
+
+    memset(out, '#', sizeof out);
+    answer = vasigmon_validated(VASIGMON_FETCH, bytes(SPECS), SPECS_LEN, bytes(rows), sizeof rows - 1,
+                                out, need, fixes, 0);
+    expect(answer.refusal == VASIGMON_ACCEPTED && answer.conflicts == 1, "a conflict, and no buffer for fixes");
+    expect(answer.length == need && memcmp(out, found, need) == 0, "its sources, first seen first");
+    expect(answer.fixes_length == 0 && fixes[0] == '#' && out[need] == '#', "nothing else is written");
+    answer = vasigmon_validated(VASIGMON_FETCH, bytes(SPECS), SPECS_LEN, bytes(rows), sizeof rows - 1,
+                                out, need - 1, fixes, 1);
+    expect(answer.refusal == VASIGMON_BUFFER_TOO_SHORT && answer.buffer == 1, "a short buffer for conflicts");
+}
+
+static void row_refusals(void)
+{
+    static uint8_t zeros[1048577];
+    uint8_t out[16], fixes[16];
+
+    expect(turned_down(vasigmon_validated(2, bytes("\5"), 1, zeros, 1048577, out, 0, fixes, 0),
+                       VASIGMON_NO_SUCH_OPERATION, 0), "operation 2 before the lists, with rows");
+    expect(turned_down(vasigmon_validated(VASIGMON_FETCH, bytes("\2a*"), 3, zeros, 1048577, out, 0, fixes, 0),
+                       VASIGMON_ONE_STAR_OF_TWO, 0), "a bad spec before a row list that is too long");
+    expect(turned_down(vasigmon_validated(VASIGMON_FETCH, bytes("\1a"), 2, zeros, 1048577, out, 0, fixes, 0),
+                       VASIGMON_LIST_TOO_LONG, 0), "a row list of 1,048,577 bytes");
+    expect(turned_down(vasigmon_validated(VASIGMON_FETCH, bytes("\1a"), 2, zeros, 1048576, out, 0, fixes, 0),
+                       VASIGMON_MALFORMED, 209715), "a row list of 1,048,576 bytes, whose last row is cut");
+    expect(turned_down(vasigmon_validated(VASIGMON_FETCH, bytes("\1a"), 2, bytes("\0\1\0\0\0"), 5,
+                                          out, 0, fixes, 0),
+                       VASIGMON_OUTSIDE_THE_LISTS, 0), "a row with a spec that is not in the list");
+}
+
 int main(void)
 {
     reading();
@@ -224,6 +299,9 @@ int main(void)
     group_prefixes();
     list_refusals();
     views();
+    validation();
+    conflicts();
+    row_refusals();
     if (failures == 0) {
         printf("c test: passed\n");
     }

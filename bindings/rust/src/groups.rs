@@ -120,7 +120,7 @@ fn refused(answer: raw::Written) -> ListRefusal {
 }
 
 /// A refusal with its record, unless it is about no record.
-fn at_record(number: u64, record: u64) -> ListRefusal {
+pub(crate) fn at_record(number: u64, record: u64) -> ListRefusal {
     let refusal = refusal(number);
     let whole = [Refusal::ListTooLong, Refusal::BufferTooShort, Refusal::NoSuchOperation];
     ListRefusal { refusal, record: (!whole.contains(&refusal)).then_some(record as usize) }

@@ -5,7 +5,8 @@
 //! fetch or push, and the other functions answer what it asks for.
 //!
 //! A list of specs maps a list of names ([`match_lhs`], and back [`match_rhs`]):
-//! [`list`] makes such lists and reads what they are mapped to.
+//! [`list`] makes such lists and reads what they are mapped to. [`validated`] tells
+//! whether that can be used.
 //!
 //! ```
 //! use vasigmon::{Instruction, Operation};
@@ -26,9 +27,11 @@ pub mod list;
 #[allow(unsafe_code)]
 pub mod raw;
 mod refusal;
+mod validation;
 
 pub use groups::{Part, group_prefixes, match_lhs, match_rhs, source};
 pub use refusal::{ListRefusal, Refusal};
+pub use validation::{Validated, validated};
 
 /// What a spec is read for.
 #[derive(Clone, Copy, Debug, PartialEq, Eq, Hash)]

@@ -2,8 +2,8 @@
 //!
 //! A number is written in groups of seven bits, lowest first, the top bit set
 //! while more follow. A list of specs, items or prefixes holds for each record
-//! its length and its bytes. What is read here is what the archive wrote: the
-//! iterators panic at a list that is not well formed.
+//! its length and its bytes; rows, conflicts and fixes have fields. What is read here
+//! is what the archive wrote: the iterators panic at a list that is not well formed.
 //!
 //! ```
 //! use vasigmon::list;
@@ -97,13 +97,93 @@ impl<'a> Iterator for Rows<'a> {
         rest.more().then(|| Row {
             item: rest.number().checked_sub(1),
             spec: rest.number(),
-            source: match rest.number() {
-                0 => Source::Name(rest.text()),
-                1 => Source::Object(rest.text()),
-                kind => panic!("no source has the kind {kind}"),
-            },
+            source: rest.source(),
             destination: rest.number().checked_sub(1).map(|length| rest.bytes(length)),
         })
+    }
+}
+
+/// A destination that different sources are mapped to.
+#[derive(Clone, Debug, PartialEq, Eq, Hash)]
+pub struct Conflict<'a> {
+    /// The destination.
+    pub destination: &'a [u8],
+    /// Its sources, two or more, in the order in which the rows first have them.
+    pub sources: Vec<ConflictSource<'a>>,
+}
+
+/// A source in a conflict.
+#[derive(Clone, Copy, Debug, PartialEq, Eq, Hash)]
+pub struct ConflictSource<'a> {
+    /// The spec of the first row that maps this source to the destination.
+    pub spec: usize,
+    /// What is mapped.
+    pub source: Source<'a>,
+}
+
+/// Walks conflicts.
+#[derive(Clone, Debug)]
+pub struct Conflicts<'a>(Reader<'a>);
+
+/// The conflicts that validation found.
+///
+/// ```
+/// use vasigmon::list::{self, Source};
+///
+/// let conflict = list::conflicts(b"\x06refs/x\x02\x00\x00\x01a\x01\x00\x01b").next().unwrap();
+/// assert_eq!(conflict.destination, b"refs/x");
+/// assert_eq!((conflict.sources[0].spec, conflict.sources[0].source), (0, Source::Name(b"a")));
+/// assert_eq!((conflict.sources[1].spec, conflict.sources[1].source), (1, Source::Name(b"b")));
+/// ```
+pub fn conflicts(list: &[u8]) -> Conflicts<'_> {
+    Conflicts(Reader { rest: list })
+}
+
+impl<'a> Iterator for Conflicts<'a> {
+    type Item = Conflict<'a>;
+
+    fn next(&mut self) -> Option<Conflict<'a>> {
+        let rest = &mut self.0;
+        rest.more().then(|| Conflict {
+            destination: rest.text(),
+            sources: (0..rest.number())
+                .map(|_| ConflictSource { spec: rest.number(), source: rest.source() })
+                .collect(),
+        })
+    }
+}
+
+/// A row that validation left out, because its destination is partial: it neither
+/// begins `refs/` nor is `HEAD`.
+#[derive(Clone, Copy, Debug, PartialEq, Eq, Hash)]
+pub struct Fix<'a> {
+    /// The destination.
+    pub name: &'a [u8],
+    /// The row's spec.
+    pub spec: usize,
+}
+
+/// Walks fixes.
+#[derive(Clone, Debug)]
+pub struct Fixes<'a>(Reader<'a>);
+
+/// What validation left out.
+///
+/// ```
+/// use vasigmon::list::{self, Fix};
+///
+/// assert_eq!(list::fixes(b"\x01b\x03").next(), Some(Fix { name: b"b", spec: 3 }));
+/// ```
+pub fn fixes(list: &[u8]) -> Fixes<'_> {
+    Fixes(Reader { rest: list })
+}
+
+impl<'a> Iterator for Fixes<'a> {
+    type Item = Fix<'a>;
+
+    fn next(&mut self) -> Option<Fix<'a>> {
+        let rest = &mut self.0;
+        rest.more().then(|| Fix { name: rest.text(), spec: rest.number() })
     }
 }
 
@@ -141,6 +221,14 @@ impl<'a> Reader<'a> {
         let length = self.number();
         self.bytes(length)
     }
+
+    fn source(&mut self) -> Source<'a> {
+        match self.number() {
+            0 => Source::Name(self.text()),
+            1 => Source::Object(self.text()),
+            kind => panic!("no source has the kind {kind}"),
+        }
+    }
 }
 
 #[cfg(test)]
@@ -161,6 +249,8 @@ mod tests {
         assert_eq!(of([b""; 0]), b"");
         assert_eq!(records(b"").count(), 0);
         assert_eq!(rows(b"").count(), 0);
+        assert_eq!(conflicts(b"").count(), 0);
+        assert_eq!(fixes(b"").count(), 0);
     }
 
     #[test]
@@ -170,5 +260,23 @@ mod tests {
         let object = Row { item: None, spec: 129, source: Source::Object(b"ab"), destination: None };
         let empty = Row { item: Some(129), spec: 0, source: Source::Name(b""), destination: Some(b"") };
         assert_eq!(found, [object, empty]);
+    }
+
+    #[test]
+    fn conflicts_of_names_and_object_ids() {
+        let list = b"\x00\x02\x81\x01\x01\x02ab\x00\x00\x02ab\x01x\x02\x03\x00\x00\x03\x00\x01y";
+        let found: Vec<_> = conflicts(list).collect();
+        let object = ConflictSource { spec: 129, source: Source::Object(b"ab") };
+        let name = ConflictSource { spec: 0, source: Source::Name(b"ab") };
+        assert_eq!(found[0], Conflict { destination: b"", sources: vec![object, name] });
+        let sources =
+            [b"".as_slice(), b"y"].map(|name| ConflictSource { spec: 3, source: Source::Name(name) });
+        assert_eq!(found[1..], [Conflict { destination: b"x", sources: sources.to_vec() }]);
+    }
+
+    #[test]
+    fn fixes_in_a_row() {
+        let found: Vec<_> = fixes(b"\x00\x81\x01\x02ab\x00").collect();
+        assert_eq!(found, [Fix { name: b"", spec: 129 }, Fix { name: b"ab", spec: 0 }]);
     }
 }

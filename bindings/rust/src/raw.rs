@@ -70,6 +70,26 @@ pub struct Written {
     pub length: u64,
 }
 
+/// The answer of [`validated`].
+#[repr(C)]
+#[derive(Clone, Copy, Debug, Default, PartialEq, Eq)]
+pub struct Validation {
+    /// 0, or why the call is refused; nothing is written then.
+    pub refusal: u64,
+    /// The number of the refused record of a list; 0 where the refusal has none.
+    pub record: u64,
+    /// 1 where `out` holds conflicts, 0 where it holds kept rows and `fixes` holds
+    /// fixes.
+    pub conflicts: u64,
+    /// The bytes written to `out`; beside refusal 17, the length of a buffer that will
+    /// do in place of the short one.
+    pub length: u64,
+    /// The bytes written to `fixes`.
+    pub fixes_length: u64,
+    /// Beside refusal 17 the short buffer, 1 `out` or 2 `fixes`.
+    pub buffer: u64,
+}
+
 /// The answer of [`source`]: a part of one of the two lists.
 #[repr(C)]
 #[derive(Clone, Copy, Debug, Default, PartialEq, Eq)]
@@ -87,7 +107,7 @@ pub struct Part {
 }
 
 mod entries {
-    use super::{Instruction, Part, Prefix, Spec, Written};
+    use super::{Instruction, Part, Prefix, Spec, Validation, Written};
 
     unsafe extern "C" {
         pub fn vasigmon_parse(op: u64, spec: *const u8, spec_len: usize) -> Spec;
@@ -141,6 +161,17 @@ mod entries {
             item_field: u64,
             spec: u64,
         ) -> Part;
+        pub fn vasigmon_validated(
+            op: u64,
+            specs: *const u8,
+            specs_len: usize,
+            rows: *const u8,
+            rows_len: usize,
+            out: *mut u8,
+            out_len: usize,
+            fixes: *mut u8,
+            fixes_len: usize,
+        ) -> Validation;
     }
 }
 
@@ -206,6 +237,24 @@ pub fn match_rhs(op: u64, specs: &[u8], items: &[u8], out: &mut [u8]) -> Written
             items.len(),
             out.as_mut_ptr(),
             out.len(),
+        )
+    }
+}
+
+/// Writes the conflicts of a list of rows to `out`; or, where there are none, the rows
+/// that are kept, and what went out to `fixes`.
+pub fn validated(op: u64, specs: &[u8], rows: &[u8], out: &mut [u8], fixes: &mut [u8]) -> Validation {
+    unsafe {
+        entries::vasigmon_validated(
+            op,
+            specs.as_ptr(),
+            specs.len(),
+            rows.as_ptr(),
+            rows.len(),
+            out.as_mut_ptr(),
+            out.len(),
+            fixes.as_mut_ptr(),
+            fixes.len(),
         )
     }
 }

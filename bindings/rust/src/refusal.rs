@@ -36,7 +36,7 @@ pub enum Refusal {
     NameTooLong = 15,
     /// A number is outside the lists, or no object id stands where one must.
     OutsideTheLists = 16,
-    /// The output buffer is not long enough for the whole answer.
+    /// An output buffer is not long enough for the whole answer.
     BufferTooShort = 17,
     /// The operation is neither 0 nor 1.
     NoSuchOperation = 18,
@@ -95,7 +95,7 @@ impl fmt::Display for Refusal {
             Refusal::OutsideTheLists => {
                 "a number is outside the lists, or no object id stands where one must"
             }
-            Refusal::BufferTooShort => "the output buffer is not long enough for the whole answer",
+            Refusal::BufferTooShort => "an output buffer is not long enough for the whole answer",
             Refusal::NoSuchOperation => "the operation is neither 0 nor 1",
         })
     }

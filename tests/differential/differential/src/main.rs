@@ -1,30 +1,34 @@
-//! Runs gix-refspec and the archive on the same specs and on the same groups of
-//! specs and items, and compares all they answer. See ../README.md.
+//! Runs gix-refspec and the archive on the same specs, on the same groups of specs and
+//! items, and on the same rows, and compares all they answer. See ../README.md.
 
 mod buffers;
+mod damage;
 mod groups;
 mod hex;
 mod smaller;
 mod specs;
+mod validation;
 mod work;
 
 use cases::Random;
 use groups::Lists;
 use hex::from_hex;
 use std::process::ExitCode;
+use validation::{Case, Second};
 
-const USAGE: &str = "usage: differential [--seed N] [--part specs|groups] [--count N] [--groups N] \
-    [--fault oracle|ours|paper] [--op N --spec-hex HEX | --op N --specs-hex HEX --items-hex HEX]";
+const USAGE: &str = "usage: differential [--seed N] [--part specs|groups|validation] \
+    [--count N] [--groups N] [--listings N] [--fault oracle|ours|paper] \
+    [--op N --spec-hex HEX | --op N --specs-hex HEX --items-hex HEX | --op N --specs-hex HEX --rows-hex HEX]";
 
 /// A wrong answer that is put in on purpose, to show that the comparison sees it.
 #[derive(Clone, Copy, PartialEq, Eq)]
 pub enum Fault {
     None,
-    /// The crate's side: the force of each fetch that updates is flipped, and each
-    /// reverse listing loses its last row.
+    /// The crate's side: the force of each fetch that updates is flipped, each reverse
+    /// listing loses its last row, and the sources of each conflict are reversed.
     Oracle,
-    /// Our side: each list of prefixes of one spec loses its last one, and each forward
-    /// listing its last row.
+    /// Our side: each list of prefixes of one spec loses its last one, each forward
+    /// listing its last row, and each list of fixes its last byte.
     Ours,
     /// The paper's side: each refusal of a list names the next record.
     Paper,
@@ -45,42 +49,57 @@ impl Fault {
 /// What the command line asks for.
 struct Options {
     seed: u64,
-    /// Which of specs and groups are compared.
-    parts: (bool, bool),
+    /// The one part that is compared, if not all are.
+    part: Option<Part>,
     count: u64,
     groups: u64,
+    listings: u64,
     fault: Fault,
     op: u64,
     spec: Option<Vec<u8>>,
     specs: Option<Vec<u8>>,
     items: Option<Vec<u8>>,
+    rows: Option<Vec<u8>>,
+}
+
+/// What is compared: single specs, groups, rows.
+#[derive(Clone, Copy, PartialEq, Eq)]
+enum Part {
+    Specs,
+    Groups,
+    Validation,
 }
 
 fn options() -> Option<Options> {
     let mut options = Options {
         seed: 1,
-        parts: (true, true),
+        part: None,
         count: 1_000_000,
         groups: 500_000,
+        listings: 120_000,
         fault: Fault::None,
         op: 0,
         spec: None,
         specs: None,
         items: None,
+        rows: None,
     };
     let mut words = std::env::args().skip(1);
     while let Some(word) = words.next() {
         let value = words.next()?;
         match word.as_str() {
             "--seed" => options.seed = value.parse().ok()?,
-            "--part" if value == "specs" => options.parts = (true, false),
-            "--part" if value == "groups" => options.parts = (false, true),
+            "--part" if value == "specs" => options.part = Some(Part::Specs),
+            "--part" if value == "groups" => options.part = Some(Part::Groups),
+            "--part" if value == "validation" => options.part = Some(Part::Validation),
             "--count" => options.count = value.parse().ok()?,
             "--groups" => options.groups = value.parse().ok()?,
+            "--listings" => options.listings = value.parse().ok()?,
             "--op" => options.op = value.parse().ok()?,
             "--spec-hex" => options.spec = Some(from_hex(&value)?),
             "--specs-hex" => options.specs = Some(from_hex(&value)?),
             "--items-hex" => options.items = Some(from_hex(&value)?),
+            "--rows-hex" => options.rows = Some(from_hex(&value)?),
             "--fault" if value == "oracle" => options.fault = Fault::Oracle,
             "--fault" if value == "ours" => options.fault = Fault::Ours,
             "--fault" if value == "paper" => options.fault = Fault::Paper,
@@ -98,16 +117,26 @@ fn main() -> ExitCode {
     let mut random = Random::new(options.seed, u64::MAX);
     let noise: Vec<u8> = (0..8 * cases::SPEC_LIMIT).map(|_| random.next() as u8).collect();
     let specs = specs::Comparison { fault: options.fault, noise: noise.clone() };
-    let groups = groups::Comparison { entries: groups::ENTRIES, fault: options.fault, noise };
+    let groups = groups::Comparison { entries: groups::ENTRIES, fault: options.fault, noise: noise.clone() };
+    let validation = validation::Comparison { entry: validation::ENTRY, fault: options.fault, noise };
 
+    let (op, part) = (options.op, options.part);
     let passed = if let Some(spec) = options.spec {
-        specs::one(&specs, options.op, &spec)
+        specs::one(&specs, op, &spec)
+    } else if let (Some(rows), specs) = (options.rows, options.specs.clone().unwrap_or_default()) {
+        validation::one(&validation, &Case { op, specs, second: Second::Rows(rows) })
     } else if options.specs.is_some() || options.items.is_some() {
         let (specs, items) = (options.specs.unwrap_or_default(), options.items.unwrap_or_default());
-        groups::one(&groups, &Lists { op: options.op, specs, items })
+        if part == Some(Part::Validation) {
+            validation::one(&validation, &Case { op, specs, second: Second::Items(items) })
+        } else {
+            groups::one(&groups, &Lists { op, specs, items })
+        }
     } else {
-        (!options.parts.0 || specs::run(specs, options.seed, options.count))
-            && (!options.parts.1 || groups::run(groups, options.seed, options.groups))
+        let compares = |one| part.is_none_or(|part| part == one);
+        (!compares(Part::Specs) || specs::run(specs, options.seed, options.count))
+            && (!compares(Part::Groups) || groups::run(groups, options.seed, options.groups))
+            && (!compares(Part::Validation) || validation::run(validation, options.seed, options.listings))
     };
     if passed { ExitCode::SUCCESS } else { ExitCode::FAILURE }
 }

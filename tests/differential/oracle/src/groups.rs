@@ -24,7 +24,7 @@ pub struct Row {
 /// Specs that the crate has read.
 pub struct Group<'a> {
     operation: Operation,
-    specs: Vec<RefSpecRef<'a>>,
+    pub(crate) specs: Vec<RefSpecRef<'a>>,
     /// What the items are said to point at. It must not matter, so it is what might:
     /// an object id that is a source.
     target: ObjectId,
@@ -61,14 +61,14 @@ impl<'a> Group<'a> {
         prefixes.iter().map(|prefix| prefix.to_vec()).collect()
     }
 
-    fn matched(&self) -> MatchGroup<'a> {
+    pub(crate) fn matched(&self) -> MatchGroup<'a> {
         match self.operation {
             Operation::Fetch => MatchGroup::from_fetch_specs(self.specs.iter().copied()),
             Operation::Push => MatchGroup::from_push_specs(self.specs.iter().copied()),
         }
     }
 
-    fn items<'b>(&'b self, names: &'b [&'b [u8]]) -> impl Iterator<Item = Item<'b>> + Clone {
+    pub(crate) fn items<'b>(&'b self, names: &'b [&'b [u8]]) -> impl Iterator<Item = Item<'b>> + Clone {
         names.iter().map(|name| Item {
             full_ref_name: BStr::new(name),
             target: &self.target,
@@ -77,17 +77,22 @@ impl<'a> Group<'a> {
     }
 }
 
-fn row(mapping: &Mapping) -> Row {
-    let (object, source) = match &mapping.lhs {
-        SourceRef::FullName(name) => (false, name.to_vec()),
-        SourceRef::ObjectId(id) => (true, id.to_string().into_bytes()),
-    };
+pub(crate) fn row(mapping: &Mapping) -> Row {
+    let (object, source) = shown(&mapping.lhs);
     Row {
         item: mapping.item_index,
         spec: mapping.spec_index,
         object,
         source,
         destination: mapping.rhs.as_ref().map(|name| name.to_vec()),
+    }
+}
+
+/// Whether a source is an object id, and its name or digits.
+pub(crate) fn shown(source: &SourceRef) -> (bool, Vec<u8>) {
+    match source {
+        SourceRef::FullName(name) => (false, name.to_vec()),
+        SourceRef::ObjectId(id) => (true, id.to_string().into_bytes()),
     }
 }
 

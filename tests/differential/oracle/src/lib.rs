@@ -1,10 +1,12 @@
 //! What gix-refspec answers, about one spec in the numbers and places of the C
-//! interface, about a group of specs as rows, so that the two can be compared field
-//! by field.
+//! interface, about a group of specs as rows, and about rows, so that the two can be
+//! compared field by field.
 
 mod groups;
+mod validation;
 
 pub use groups::{Group, Row};
+pub use validation::{Conflict, ConflictSource, Fix, Verdict};
 
 use bstr::BStr;
 use gix_refspec::{

@@ -1,4 +1,4 @@
-//! Document 01, read a second time: what it says of specs, lists and groups, as
+//! Document 01, read a second time: what it says of specs, lists, groups and rows, as
 //! plainly as it goes and with no eye on speed. It is written from the paper's
 //! sentences, which it cites, and is no translation of our code or of gix-refspec.
 
@@ -8,11 +8,13 @@ mod list;
 mod name;
 mod number;
 mod spec;
+mod validation;
 
-pub use calls::{group_prefixes, match_lhs, match_rhs, source};
+pub use calls::{group_prefixes, match_lhs, match_rhs, source, validated};
 pub use group::{Group, Part, Row};
-pub use list::{Items, list};
+pub use list::{Items, list, read_row};
 pub use spec::{Mode, Spec, read_spec};
+pub use validation::{Conflict, ConflictSource, Fix, Verdict};
 
 /// Why a call is refused.
 #[derive(Clone, Copy, Debug, PartialEq, Eq)]

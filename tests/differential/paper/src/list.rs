@@ -97,7 +97,7 @@ pub fn read_rows(list: &[u8], specs: usize) -> Result<Vec<Row>, Refused> {
 /// "Row: item number plus 1 (0 for none); spec number; source kind (0 name, 1
 /// object); source length and bytes (40 lower-case digits for an object); then 0 for
 /// no destination, else its length plus 1 and its bytes."
-fn read_row(bytes: &[u8]) -> Option<(Row, &[u8])> {
+pub fn read_row(bytes: &[u8]) -> Option<(Row, &[u8])> {
     let (item, rest) = read(bytes)?;
     let (spec, rest) = read(rest)?;
     let (kind, rest) = read(rest)?;

@@ -5,10 +5,9 @@ use super::{Entries, Lists, Seen, part, refusal};
 use crate::{
     Fault,
     buffers::{Again, Call, Lent, alike, refused, written},
-    smaller::{copies, shorter},
+    smaller::{fewest_records, simpler},
     specs::records,
 };
-use cases::{short_text, short_texts};
 use paper::{Group, Items, Refused};
 use std::{
     borrow::Cow,
@@ -208,8 +207,8 @@ impl Comparison {
         let differs = |copy: &Lists| Instant::now() < until && shows(copy, again);
 
         let mut lists = lists;
-        lists.specs = fewest(&lists.specs, |specs| differs(&Lists { specs, ..lists.clone() }));
-        lists.items = fewest(&lists.items, |items| differs(&Lists { items, ..lists.clone() }));
+        lists.specs = fewest_records(&lists.specs, |specs| differs(&Lists { specs, ..lists.clone() }));
+        lists.items = fewest_records(&lists.items, |items| differs(&Lists { items, ..lists.clone() }));
         loop {
             let mut bytes = [&lists.specs[..], &lists.items].concat();
             bytes.sort();
@@ -241,7 +240,8 @@ fn the_crate_refuses(op: u64, specs: &[u8], why: Refused) -> Result<(), String> 
     }
 }
 
-fn as_the_crate_has_it(row: list::Row) -> oracle::Row {
+/// A row of ours as the crate has it.
+pub fn as_the_crate_has_it(row: list::Row) -> oracle::Row {
     let (object, source) = match row.source {
         Source::Name(name) => (false, name),
         Source::Object(digits) => (true, digits),
@@ -322,46 +322,6 @@ fn picked(rows: &[paper::Row], again: Again) -> Vec<&paper::Row> {
         Again::One(_) if some.is_empty() => some,
         Again::One(n) => vec![some[(n % some.len() as u64) as usize]],
     }
-}
-
-/// A list with runs of records left out, longer ones first, as long as it differs.
-fn fewest(list: &[u8], differs: impl Fn(Vec<u8>) -> bool) -> Vec<u8> {
-    let Ok(mut records) = records(list) else { return list.to_vec() };
-    let mut run = records.len();
-    while run > 0 {
-        let mut at = 0;
-        while at < records.len() {
-            let mut fewer = records.clone();
-            fewer.drain(at..records.len().min(at + run));
-            if differs(list::of(&fewer)) {
-                records = fewer;
-            } else {
-                at += run;
-            }
-        }
-        run /= 2;
-    }
-    list::of(&records)
-}
-
-/// Copies of a list that are simpler. Where it has records: some are left out, or one
-/// is simpler, or is a text of up to two of these bytes. Else by its bytes.
-fn simpler<'a>(
-    list: &'a [u8],
-    records: Option<&'a [Vec<u8>]>,
-    bytes: &'a [u8],
-) -> Box<dyn Iterator<Item = Vec<u8>> + 'a> {
-    let Some(records) = records else { return Box::new(copies(list)) };
-    let plainer = records.iter().enumerate().flat_map(move |(at, record)| {
-        let short = (0..short_texts(bytes, 2)).map(move |n| short_text(bytes, n));
-        let short = short.take_while(move |short| short.len() < record.len());
-        copies(record).chain(short).map(move |copy| {
-            let mut records = records.to_vec();
-            records[at] = copy;
-            list::of(&records)
-        })
-    });
-    Box::new(shorter(records).map(list::of).chain(plainer))
 }
 
 #[cfg(test)]

@@ -6,11 +6,18 @@ mod entries;
 mod full;
 mod seen;
 
-pub use compare::Comparison;
+pub use compare::{Comparison, as_the_crate_has_it};
 pub use entries::{ENTRIES, Entries};
 pub use seen::Seen;
 
-use crate::{buffers::Again, cut, hex::to_hex, specs::records, work};
+use crate::{
+    buffers::Again,
+    cut,
+    damage::{Damage, Pair},
+    hex::to_hex,
+    specs::records,
+    work,
+};
 use cases::{Random, damaged, group};
 use std::time::Instant;
 use vasigmon::{
@@ -39,17 +46,18 @@ pub struct Lists {
 /// full-size groups.
 pub fn run(comparison: Comparison, seed: u64, count: u64) -> bool {
     let full = full::lists(seed);
-    let damaged = damage::Bases::new();
+    let damage = Damage::of(damage::pairs());
+    let lists = |(op, specs, items): Pair| Lists { op, specs, items };
     let mut run = Run { comparison, seen: Seen::default(), began: Instant::now() };
     let passed = run.operations()
         && run.lists("grown groups, each for both operations", 2 * count, CHUNK, |n| {
             let again = if n % THOROUGH < 2 { Again::All } else { Again::One(n / 2) };
             (Lists { op: n % 2, ..grown(seed, n / 2) }, again)
         })
-        && run.lists("good lists", damaged.good().len() as u64, 1, |n| {
-            (damaged.good()[n as usize].clone(), Again::All)
+        && run.lists("good lists", damage.good().len() as u64, 1, |n| {
+            (lists(damage.good()[n as usize].clone()), Again::All)
         })
-        && run.lists("damaged lists", damaged.count(), CHUNK, |n| (damaged.lists(n), Again::One(n)))
+        && run.lists("damaged lists", damage.count(), CHUNK, |n| (lists(damage.copy(n)), Again::One(n)))
         && run.lists("full-size groups", full.len() as u64, 1, |n| (full[n as usize].clone(), Again::All))
         && run.seen.everything();
     if passed {
@@ -69,7 +77,7 @@ pub fn one(comparison: &Comparison, lists: &Lists) -> bool {
 }
 
 /// A small group, which is well formed in most cases.
-fn grown(seed: u64, number: u64) -> Lists {
+pub fn grown(seed: u64, number: u64) -> Lists {
     let mut random = Random::new(seed, number);
     let op = random.next() % 2;
     let group = group(op, MOST, MOST, &mut random);
@@ -170,7 +178,7 @@ impl Run {
 }
 
 /// A list as its records, or as its bytes where it is not well formed.
-fn shown(list: &[u8]) -> String {
+pub fn shown(list: &[u8]) -> String {
     match records(list) {
         Ok(texts) => texts.iter().map(|text| format!("\"{}\" ", text.escape_ascii())).collect(),
         Err(_) => format!("list of the bytes {}", list.escape_ascii()),

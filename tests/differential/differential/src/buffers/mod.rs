@@ -1,6 +1,10 @@
 //! The rules of lent buffers, held to any call that writes. A broken rule is a
 //! complaint.
 
+mod two;
+
+pub use two::{Two, TwoCall, two_refused, two_written};
+
 use vasigmon::raw::Written;
 
 /// A call that writes, with all its arguments but the buffer.
