@@ -5,9 +5,13 @@ ghost use lib.ListN.{length};
 use deliver::print_lists;
 use gather::gather;
 use libc::STDIN_FILENO;
-use words::print::say;
-use words::say_line;
-use words::say_reason;
+use libc::STDOUT_FILENO;
+use words::reason;
+
+// Prints bytes as they are.
+fn say(t: &[u8]) {
+    io::write_all(STDOUT_FILENO, t);
+}
 
 // Prints a listing. Its header does not begin so: this is 17, the one refusal of lists that were gathered.
 fn show_printed(t: &[u8]) {
@@ -27,9 +31,14 @@ fn show_lists(specs: &[u8], items: &[u8]) {
 }
 
 // Names the line that is refused, with the reason.
-fn show_refused(line: u64, reason: u64) {
-    say_line(line);
-    say_reason(reason);
+fn show_refused(line: u64, number: u64) {
+    say(b"line ");
+    io::print_decimal(STDOUT_FILENO, line);
+    say(b": ");
+    let words = reason(number);
+    let t = words.0;
+    let n = words.1;
+    say(&t[..n]);
     say(b"\n");
 }
 

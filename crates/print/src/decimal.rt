@@ -17,7 +17,7 @@ fn last_digit(n: usize) -> u8
 }
 
 // How many digits a number has.
-pub fn decimal_size(n: usize) -> usize
+pub(crate) fn decimal_size(n: usize) -> usize
     ensures { λ r. ⌜ (r ≡ length (decimal n)) × (r ≤ 4) ⌝ }
 {
     if n < 10 {
@@ -48,7 +48,7 @@ fn put_digits(out: &mut [u8], at: usize, k: usize, n: usize) -> usize
 }
 
 // Writes a number, and answers the place after it.
-pub fn put_decimal(out: &mut [u8], at: usize, n: usize) -> usize
+pub(crate) fn put_decimal(out: &mut [u8], at: usize, n: usize) -> usize
     requires { ⌜ at + length (decimal n) ≤ length (now out) ⌝ }
     ensures { λ r. ⌜ (now (out .exit) ≡ splice (now (out .entry)) at (decimal n)) × (r ≡ at + length (decimal n)) ⌝ }
 {

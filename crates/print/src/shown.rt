@@ -62,7 +62,7 @@ fn put_shown_byte(out: &mut [u8], at: usize, b: u8) -> usize
 }
 
 // How many bytes a text takes.
-pub fn shown_size(t: &[u8]) -> usize
+pub(crate) fn shown_size(t: &[u8]) -> usize
     requires { ⌜ length (now t) ≤ programBytes ⌝ }
     ensures { λ r. ⌜ (r ≡ length (shown (now (t .entry)))) × (r ≤ 196609) ⌝ }
 {
@@ -76,7 +76,7 @@ pub fn shown_size(t: &[u8]) -> usize
 }
 
 // Writes a text, and answers the place after it.
-pub fn put_shown(out: &mut [u8], at: usize, t: &[u8]) -> usize
+pub(crate) fn put_shown(out: &mut [u8], at: usize, t: &[u8]) -> usize
     requires { ⌜ at + length (shown (now t)) ≤ length (now out) ⌝ }
     ensures { λ r. ⌜ (now (out .exit) ≡ splice (now (out .entry)) at (shown (now (t .entry)))) × (r ≡ at + length (shown (now (t .entry)))) ⌝ }
 {

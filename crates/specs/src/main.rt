@@ -6,11 +6,12 @@ use libc::STDIN_FILENO;
 use lines::Line;
 use lines::classify;
 
+mod print;
 mod show;
 
+use print::say;
+use print::say_line;
 use show::show_spec;
-use words::print::say;
-use words::say_line;
 
 // Names a line and says what is wrong with it.
 fn complain(number: u64, what: &[u8]) {

@@ -1,4 +1,9 @@
 // What a spec becomes, in words: its instruction, its sides, its canonical text, its prefix and the prefixes that it yields.
+use super::print::say;
+use super::print::say_line;
+use super::print::say_number;
+use super::print::say_reason;
+use super::print::say_text;
 use number::Number;
 use parse::types::Side;
 use refspec::instruction::Instruction;
@@ -6,11 +11,6 @@ use refspec::spec::Instructed;
 use refspec::spec::Prefixed;
 use refspec::spec::instruction;
 use refspec::spec::prefix;
-use words::print::say;
-use words::print::say_number;
-use words::print::say_text;
-use words::say_line;
-use words::say_reason;
 use write::canonical::to_bstring;
 use write::prefixes::expand_prefixes;
 

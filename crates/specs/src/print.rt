@@ -1,13 +1,14 @@
 // Printing on standard output. A byte outside 33 to 126, and `%`, is printed as `%` and two capital hexadecimal digits.
 use libc::STDOUT_FILENO;
+use words::reason;
 
 // Prints bytes as they are.
-pub fn say(t: &[u8]) {
+pub(crate) fn say(t: &[u8]) {
     io::write_all(STDOUT_FILENO, t);
 }
 
 // Prints a number in decimal.
-pub fn say_number(n: u64) {
+pub(crate) fn say_number(n: u64) {
     io::print_decimal(STDOUT_FILENO, n);
 }
 
@@ -43,10 +44,25 @@ fn say_byte(b: u8) {
 }
 
 // Prints a text.
-pub fn say_text(t: &[u8]) {
+pub(crate) fn say_text(t: &[u8]) {
     let mut i = 0;
     while i < t.len() {
         say_byte(t[i]);
         i += 1;
     }
+}
+
+// Names a line, before what is said of it.
+pub(crate) fn say_line(number: u64) {
+    say(b"line ");
+    say_number(number);
+    say(b": ");
+}
+
+// Says in words why a spec is refused.
+pub(crate) fn say_reason(n: u64) {
+    let words = reason(n);
+    let t = words.0;
+    let size = words.1;
+    say(&t[..size]);
 }

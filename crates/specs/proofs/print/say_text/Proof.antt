@@ -2,8 +2,8 @@
 use Prim.Native.Nat.{_≤_, _-_}
 use lib.ListN.{length}
 use borrow.Author.Needs.{needs}
-use Rattle.words.proofs.print.say_text.Statement.{statement}
-use Rattle.words.proofs.print.say_text.Tie as tie
+use Rattle.specs.proofs.print.say_text.Statement.{statement}
+use Rattle.specs.proofs.print.say_text.Tie as tie
 
 abbrev Inv-loop : tie.InvT-loop
 Inv-loop t i₀ i = i ≤ length t

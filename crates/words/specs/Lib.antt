@@ -1,0 +1,2 @@
+-- `Words`: the words for each reason.
+pub mod Words
