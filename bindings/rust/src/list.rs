@@ -1,17 +1,19 @@
-//! The byte lists of the interface: made of texts, and read.
+//! The byte lists of the interface: made of texts, and walked.
 //!
-//! A number is written in groups of seven bits, lowest first, the top bit set
-//! while more follow. A list of specs, items or prefixes holds for each record
-//! its length and its bytes; rows, conflicts and fixes have fields. What is read here
-//! is what the archive wrote: the iterators panic at a list that is not well formed.
+//! A number is written in groups of seven bits, lowest first, the top bit set while more
+//! follow, in its shortest form and in at most three groups. A list of specs, items or
+//! prefixes holds for each record its length and its bytes; rows, conflicts and fixes have
+//! fields.
 //!
 //! ```
 //! use vasigmon::list;
 //!
-//! let specs = list::of([b"main".as_slice(), b"^tmp"]);
+//! let specs = list::of(["main", "^tmp"]);
 //! assert_eq!(specs, b"\x04main\x04^tmp");
 //! assert_eq!(list::records(&specs).collect::<Vec<_>>(), [b"main".as_slice(), b"^tmp"]);
 //! ```
+
+use std::{fmt, iter::FusedIterator};
 
 /// The list of these texts, as many as there are and as long as they are.
 pub fn of<T: AsRef<[u8]>>(texts: impl IntoIterator<Item = T>) -> Vec<u8> {
@@ -34,20 +36,58 @@ pub fn push(list: &mut Vec<u8>, text: &[u8]) {
 }
 
 /// Walks the records of a list.
-#[derive(Clone, Debug)]
-pub struct Records<'a>(Reader<'a>);
-
-/// The records of a list of specs, items or prefixes.
-pub fn records(list: &[u8]) -> Records<'_> {
-    Records(Reader { rest: list })
+///
+/// What the archive wrote is walked to its end. Of any other bytes the walk ends before the
+/// first record that is not well formed, and [`Walk::rest`] has what is left.
+///
+/// ```
+/// use vasigmon::list;
+///
+/// let mut walk = list::records(b"\x01a\x02b");
+/// assert_eq!(walk.next(), Some(b"a".as_slice()));
+/// assert_eq!(walk.next(), None);
+/// assert_eq!(walk.rest(), b"\x02b");
+/// ```
+#[derive(Clone)]
+pub struct Walk<'a, R> {
+    reader: Reader<'a>,
+    read: fn(&mut Reader<'a>) -> Option<R>,
 }
 
-impl<'a> Iterator for Records<'a> {
-    type Item = &'a [u8];
-
-    fn next(&mut self) -> Option<&'a [u8]> {
-        self.0.more().then(|| self.0.text())
+impl<'a, R> Walk<'a, R> {
+    fn new(list: &'a [u8], read: fn(&mut Reader<'a>) -> Option<R>) -> Walk<'a, R> {
+        Walk { reader: Reader { rest: list }, read }
     }
+
+    /// The bytes that are not walked yet. Where the walk has ended there are none, if the
+    /// list is well formed.
+    pub fn rest(&self) -> &'a [u8] {
+        self.reader.rest
+    }
+}
+
+impl<R> Iterator for Walk<'_, R> {
+    type Item = R;
+
+    fn next(&mut self) -> Option<R> {
+        let mut reader = self.reader.clone();
+        let record = (self.read)(&mut reader)?;
+        self.reader = reader;
+        Some(record)
+    }
+}
+
+impl<R> FusedIterator for Walk<'_, R> {}
+
+impl<R> fmt::Debug for Walk<'_, R> {
+    fn fmt(&self, f: &mut fmt::Formatter<'_>) -> fmt::Result {
+        f.debug_struct("Walk").field("rest", &self.rest()).finish()
+    }
+}
+
+/// The records of a list of specs, items or prefixes.
+pub fn records(list: &[u8]) -> Walk<'_, &[u8]> {
+    Walk::new(list, Reader::text)
 }
 
 /// A row of a listing: what one spec maps one source to.
@@ -72,9 +112,13 @@ pub enum Source<'a> {
     Object(&'a [u8]),
 }
 
-/// Walks the rows of a listing.
-#[derive(Clone, Debug)]
-pub struct Rows<'a>(Reader<'a>);
+impl<'a> Source<'a> {
+    /// The name, or the digits.
+    pub fn text(self) -> &'a [u8] {
+        let (Source::Name(text) | Source::Object(text)) = self;
+        text
+    }
+}
 
 /// The rows of a listing.
 ///
@@ -85,22 +129,8 @@ pub struct Rows<'a>(Reader<'a>);
 /// assert_eq!((row.item, row.spec, row.source), (Some(0), 0, Source::Name(b"a")));
 /// assert_eq!(row.destination, Some(b"refs/heads/b".as_slice()));
 /// ```
-pub fn rows(listing: &[u8]) -> Rows<'_> {
-    Rows(Reader { rest: listing })
-}
-
-impl<'a> Iterator for Rows<'a> {
-    type Item = Row<'a>;
-
-    fn next(&mut self) -> Option<Row<'a>> {
-        let rest = &mut self.0;
-        rest.more().then(|| Row {
-            item: rest.number().checked_sub(1),
-            spec: rest.number(),
-            source: rest.source(),
-            destination: rest.number().checked_sub(1).map(|length| rest.bytes(length)),
-        })
-    }
+pub fn rows(listing: &[u8]) -> Walk<'_, Row<'_>> {
+    Walk::new(listing, Reader::row)
 }
 
 /// A destination that different sources are mapped to.
@@ -121,10 +151,6 @@ pub struct ConflictSource<'a> {
     pub source: Source<'a>,
 }
 
-/// Walks conflicts.
-#[derive(Clone, Debug)]
-pub struct Conflicts<'a>(Reader<'a>);
-
 /// The conflicts that validation found.
 ///
 /// ```
@@ -135,22 +161,8 @@ pub struct Conflicts<'a>(Reader<'a>);
 /// assert_eq!((conflict.sources[0].spec, conflict.sources[0].source), (0, Source::Name(b"a")));
 /// assert_eq!((conflict.sources[1].spec, conflict.sources[1].source), (1, Source::Name(b"b")));
 /// ```
-pub fn conflicts(list: &[u8]) -> Conflicts<'_> {
-    Conflicts(Reader { rest: list })
-}
-
-impl<'a> Iterator for Conflicts<'a> {
-    type Item = Conflict<'a>;
-
-    fn next(&mut self) -> Option<Conflict<'a>> {
-        let rest = &mut self.0;
-        rest.more().then(|| Conflict {
-            destination: rest.text(),
-            sources: (0..rest.number())
-                .map(|_| ConflictSource { spec: rest.number(), source: rest.source() })
-                .collect(),
-        })
-    }
+pub fn conflicts(list: &[u8]) -> Walk<'_, Conflict<'_>> {
+    Walk::new(list, Reader::conflict)
 }
 
 /// A row that validation left out, because its destination is partial: it neither
@@ -163,10 +175,6 @@ pub struct Fix<'a> {
     pub spec: usize,
 }
 
-/// Walks fixes.
-#[derive(Clone, Debug)]
-pub struct Fixes<'a>(Reader<'a>);
-
 /// What validation left out.
 ///
 /// ```
@@ -174,60 +182,79 @@ pub struct Fixes<'a>(Reader<'a>);
 ///
 /// assert_eq!(list::fixes(b"\x01b\x03").next(), Some(Fix { name: b"b", spec: 3 }));
 /// ```
-pub fn fixes(list: &[u8]) -> Fixes<'_> {
-    Fixes(Reader { rest: list })
+pub fn fixes(list: &[u8]) -> Walk<'_, Fix<'_>> {
+    Walk::new(list, Reader::fix)
 }
 
-impl<'a> Iterator for Fixes<'a> {
-    type Item = Fix<'a>;
-
-    fn next(&mut self) -> Option<Fix<'a>> {
-        let rest = &mut self.0;
-        rest.more().then(|| Fix { name: rest.text(), spec: rest.number() })
-    }
-}
-
-/// Reads at the front of a list.
-#[derive(Clone, Debug)]
+/// Reads at the front of a list; each answer is none where what is asked for does not
+/// stand there.
+#[derive(Clone)]
 struct Reader<'a> {
     rest: &'a [u8],
 }
 
 impl<'a> Reader<'a> {
-    fn more(&self) -> bool {
-        !self.rest.is_empty()
-    }
-
-    fn number(&mut self) -> usize {
+    fn number(&mut self) -> Option<usize> {
         let mut number = 0;
-        for group in 0.. {
-            let (byte, rest) = self.rest.split_first().expect("a number ends before its list does");
+        for group in 0..3 {
+            let (&byte, rest) = self.rest.split_first()?;
             self.rest = rest;
-            number += usize::from(byte & 0x7f) << (7 * group);
+            number |= usize::from(byte & 0x7f) << (7 * group);
             if byte & 0x80 == 0 {
-                break;
+                let shortest = group == 0 || byte != 0;
+                return shortest.then_some(number);
             }
         }
-        number
+        None
     }
 
-    fn bytes(&mut self, length: usize) -> &'a [u8] {
-        let (bytes, rest) = self.rest.split_at(length);
+    fn bytes(&mut self, length: usize) -> Option<&'a [u8]> {
+        let (bytes, rest) = self.rest.split_at_checked(length)?;
         self.rest = rest;
-        bytes
+        Some(bytes)
     }
 
-    fn text(&mut self) -> &'a [u8] {
-        let length = self.number();
+    fn text(&mut self) -> Option<&'a [u8]> {
+        let length = self.number()?;
         self.bytes(length)
     }
 
-    fn source(&mut self) -> Source<'a> {
-        match self.number() {
-            0 => Source::Name(self.text()),
-            1 => Source::Object(self.text()),
-            kind => panic!("no source has the kind {kind}"),
+    fn source(&mut self) -> Option<Source<'a>> {
+        match self.number()? {
+            0 => self.text().map(Source::Name),
+            1 => self.text().map(Source::Object),
+            _ => None,
         }
+    }
+
+    fn destination(&mut self) -> Option<Option<&'a [u8]>> {
+        match self.number()? {
+            0 => Some(None),
+            length => self.bytes(length - 1).map(Some),
+        }
+    }
+
+    fn row(&mut self) -> Option<Row<'a>> {
+        Some(Row {
+            item: self.number()?.checked_sub(1),
+            spec: self.number()?,
+            source: self.source()?,
+            destination: self.destination()?,
+        })
+    }
+
+    fn conflict(&mut self) -> Option<Conflict<'a>> {
+        let destination = self.text()?;
+        let sources = (0..self.number()?).map(|_| self.conflict_source()).collect::<Option<_>>()?;
+        Some(Conflict { destination, sources })
+    }
+
+    fn conflict_source(&mut self) -> Option<ConflictSource<'a>> {
+        Some(ConflictSource { spec: self.number()?, source: self.source()? })
+    }
+
+    fn fix(&mut self) -> Option<Fix<'a>> {
+        Some(Fix { name: self.text()?, spec: self.number()? })
     }
 }
 

@@ -2,7 +2,20 @@
 //!
 //! Answers are as include/vasigmon.h describes them: numbers and places, not
 //! slices. Use these functions to lend a buffer of your own or to keep places;
-//! the functions at the crate's top resolve both.
+//! the types at the crate's top resolve both.
+//!
+//! ```
+//! use vasigmon::{Operation, Refusal, raw};
+//!
+//! let push = Operation::Push as u64;
+//! let mut out = vec![0; 4];
+//! let mut answer = raw::to_bstring(push, b"main", &mut out);
+//! if answer.refusal == Refusal::BufferTooShort.number() {
+//!     out.resize(answer.length as usize, 0);
+//!     answer = raw::to_bstring(push, b"main", &mut out);
+//! }
+//! assert_eq!(&out[..answer.length as usize], b"main:main");
+//! ```
 
 /// A side of a spec, or a prefix.
 #[repr(C)]

@@ -1,117 +1,113 @@
 use std::fmt;
 
-/// Why a call is refused: the first question that was answered by no.
-#[derive(Clone, Copy, Debug, PartialEq, Eq, Hash)]
-#[non_exhaustive]
-pub enum Refusal {
-    /// The spec is above 4,096 bytes.
-    SpecTooLong = 1,
-    /// A push spec is empty.
-    EmptyPush = 2,
-    /// A spec with `^` has a colon.
-    NegativeColon = 3,
-    /// A push has a colon and a source, and no destination.
-    PushIntoNothing = 4,
-    /// The source has more than one star.
-    SourceStars = 5,
-    /// The source does not pass the name rules.
-    SourceName = 6,
-    /// The destination has more than one star.
-    DestinationStars = 7,
-    /// The destination does not pass the name rules.
-    DestinationName = 8,
-    /// One side has a star and the other has none.
-    OneStarOfTwo = 9,
-    /// No source follows `^`.
-    NegativeEmpty = 10,
-    /// The source after `^` is forty or more bytes, all hexadecimal digits.
-    NegativeObject = 11,
-    /// The list is above its limit of bytes.
-    ListTooLong = 12,
-    /// The record is not well formed within its list.
-    Malformed = 13,
-    /// The record is beyond 256 specs or 1,024 items.
-    TooManyRecords = 14,
-    /// The item's name is above 4,096 bytes.
-    NameTooLong = 15,
-    /// A number is outside the lists, or no object id stands where one must.
-    OutsideTheLists = 16,
-    /// An output buffer is not long enough for the whole answer.
-    BufferTooShort = 17,
-    /// The operation is neither 0 nor 1.
-    NoSuchOperation = 18,
+/// Makes the enum of a number, a name and words for each refusal.
+macro_rules! refusals {
+    ($($number:literal $name:ident $words:literal)*) => {
+        /// Why a call is refused: the first question that was answered by no.
+        ///
+        /// ```
+        /// use vasigmon::{Operation, Refusal, parse};
+        ///
+        /// let refusal = parse(Operation::Fetch, b"a*:b").unwrap_err();
+        /// assert_eq!(refusal, Refusal::OneStarOfTwo);
+        /// assert_eq!(refusal.number(), 9);
+        /// assert_eq!(refusal.to_string(), "one side has a star and the other has none");
+        /// ```
+        #[derive(Clone, Copy, Debug, PartialEq, Eq, Hash)]
+        #[non_exhaustive]
+        pub enum Refusal {
+            $(#[doc = concat!("Number ", $number, ": ", $words, ".")] $name = $number,)*
+        }
+
+        impl Refusal {
+            /// All refusals, in the order of their numbers.
+            pub const ALL: &[Refusal] = &[$(Refusal::$name),*];
+
+            /// The words for this refusal, which are those of the C header.
+            pub fn words(self) -> &'static str {
+                match self {
+                    $(Refusal::$name => $words,)*
+                }
+            }
+        }
+    };
+}
+
+refusals! {
+    1 SpecTooLong "the spec is above 4,096 bytes"
+    2 EmptyPush "a push spec is empty"
+    3 NegativeColon "a spec with `^` has a colon"
+    4 PushIntoNothing "a push has a colon and a source, and no destination"
+    5 SourceStars "the source has more than one star"
+    6 SourceName "the source does not pass the name rules"
+    7 DestinationStars "the destination has more than one star"
+    8 DestinationName "the destination does not pass the name rules"
+    9 OneStarOfTwo "one side has a star and the other has none"
+    10 NegativeEmpty "no source follows `^`"
+    11 NegativeObject "the source after `^` is forty or more bytes, all hexadecimal digits"
+    12 ListTooLong "a spec list or an item list is above 65,535 bytes, or a row list above 1,048,576"
+    13 Malformed "the record is not well formed within its list"
+    14 TooManyRecords "the record is beyond 256 specs or 1,024 items"
+    15 NameTooLong "the item's name is above 4,096 bytes"
+    16 OutsideTheLists "a number is outside the lists, or no object id stands where one must"
+    17 BufferTooShort "an output buffer is not long enough for the whole answer"
+    18 NoSuchOperation "the operation is neither 0 nor 1"
 }
 
 impl Refusal {
-    /// The refusal with that number, or none if no call here gives it.
+    /// The refusal with that number in the C interface, if there is one.
     pub fn from_number(number: u64) -> Option<Refusal> {
-        Some(match number {
-            1 => Refusal::SpecTooLong,
-            2 => Refusal::EmptyPush,
-            3 => Refusal::NegativeColon,
-            4 => Refusal::PushIntoNothing,
-            5 => Refusal::SourceStars,
-            6 => Refusal::SourceName,
-            7 => Refusal::DestinationStars,
-            8 => Refusal::DestinationName,
-            9 => Refusal::OneStarOfTwo,
-            10 => Refusal::NegativeEmpty,
-            11 => Refusal::NegativeObject,
-            12 => Refusal::ListTooLong,
-            13 => Refusal::Malformed,
-            14 => Refusal::TooManyRecords,
-            15 => Refusal::NameTooLong,
-            16 => Refusal::OutsideTheLists,
-            17 => Refusal::BufferTooShort,
-            18 => Refusal::NoSuchOperation,
-            _ => return None,
-        })
+        Refusal::ALL.iter().copied().find(|refusal| refusal.number() == number)
     }
 
     /// The number of this refusal in the C interface.
     pub fn number(self) -> u64 {
         self as u64
     }
+
+    /// The refusal that an answer tells, or nothing for 0.
+    pub(crate) fn told(number: u64) -> Result<(), Refusal> {
+        match number {
+            0 => Ok(()),
+            _ => Err(Refusal::from_number(number).expect("an answer tells 0 or the number of a refusal")),
+        }
+    }
 }
 
 impl fmt::Display for Refusal {
     fn fmt(&self, f: &mut fmt::Formatter<'_>) -> fmt::Result {
-        f.write_str(match self {
-            Refusal::SpecTooLong => "the spec is above 4,096 bytes",
-            Refusal::EmptyPush => "the push spec is empty",
-            Refusal::NegativeColon => "a spec with '^' has a colon",
-            Refusal::PushIntoNothing => "a push with a colon and a source has no destination",
-            Refusal::SourceStars => "the source has more than one star",
-            Refusal::SourceName => "the source does not pass the name rules",
-            Refusal::DestinationStars => "the destination has more than one star",
-            Refusal::DestinationName => "the destination does not pass the name rules",
-            Refusal::OneStarOfTwo => "one side has a star and the other has none",
-            Refusal::NegativeEmpty => "no source follows '^'",
-            Refusal::NegativeObject => "the source after '^' is forty or more bytes, all hexadecimal digits",
-            Refusal::ListTooLong => "the list is above its limit of bytes",
-            Refusal::Malformed => "the record is not well formed within its list",
-            Refusal::TooManyRecords => "the record is beyond 256 specs or 1,024 items",
-            Refusal::NameTooLong => "the item's name is above 4,096 bytes",
-            Refusal::OutsideTheLists => {
-                "a number is outside the lists, or no object id stands where one must"
-            }
-            Refusal::BufferTooShort => "an output buffer is not long enough for the whole answer",
-            Refusal::NoSuchOperation => "the operation is neither 0 nor 1",
-        })
+        f.write_str(self.words())
     }
 }
 
 impl std::error::Error for Refusal {}
 
-/// Why a call on lists is refused, and at which record.
+/// Why a list is refused, and at which record.
+///
+/// ```
+/// use vasigmon::{Group, ListRefusal, Operation, Refusal};
+///
+/// let refused = Group::new(Operation::Fetch, ["main", "^a:b"]).unwrap_err();
+/// assert_eq!(refused, ListRefusal { refusal: Refusal::NegativeColon, record: Some(1) });
+/// assert_eq!(refused.to_string(), "record 1: a spec with `^` has a colon");
+/// ```
 #[derive(Clone, Copy, Debug, PartialEq, Eq, Hash)]
 pub struct ListRefusal {
     /// The first question that was answered by no.
     pub refusal: Refusal,
-    /// The record that it was asked of, counted from 0: of the spec list, or of the
-    /// second list where that is the one refused. Questions about a whole list, a
-    /// buffer, the operation or the source view's numbers have none.
+    /// The record that it was asked of, counted from 0; none where the list as a whole
+    /// is too long.
     pub record: Option<usize>,
+}
+
+impl ListRefusal {
+    /// The refusal that an answer tells beside a record, or nothing for 0.
+    pub(crate) fn told(number: u64, record: u64) -> Result<(), ListRefusal> {
+        Refusal::told(number).map_err(|refusal| ListRefusal {
+            refusal,
+            record: (refusal != Refusal::ListTooLong).then_some(record as usize),
+        })
+    }
 }
 
 impl fmt::Display for ListRefusal {

@@ -1,4 +1,4 @@
-use crate::{ListRefusal, Operation, Refusal, groups::at_record, raw};
+use crate::{Group, ListRefusal, Refusal, buffer::FIRST, raw};
 
 /// What validation says of a list of rows.
 #[derive(Clone, Debug, PartialEq, Eq, Hash)]
@@ -19,51 +19,48 @@ pub enum Validated {
     Conflicts(Vec<u8>),
 }
 
-/// Answers whether rows can be used: each destination has one source only.
-///
-/// The rows are a listing, as [`match_lhs`](crate::match_lhs) answers it for these
-/// specs, or any others whose spec numbers are in the list. A name and an object id
-/// are always different sources. [`raw::validated`] writes to buffers of yours
-/// instead.
-///
-/// ```
-/// use vasigmon::{list, match_lhs, validated, Operation, Validated};
-///
-/// let items = list::of([b"refs/heads/a".as_slice(), b"refs/heads/b"]);
-/// let specs = list::of([b"refs/heads/*:refs/x/*".as_slice(), b"refs/heads/a:refs/x/b"]);
-/// let listing = match_lhs(Operation::Fetch, &specs, &items)?;
-/// let Validated::Conflicts(conflicts) = validated(Operation::Fetch, &specs, &listing)? else {
-///     panic!("refs/x/b has two sources");
-/// };
-/// assert_eq!(list::conflicts(&conflicts).next().unwrap().destination, b"refs/x/b");
-///
-/// let specs = list::of([b"refs/heads/*:refs/x/*".as_slice(), b"refs/*:y/*"]);
-/// let listing = match_lhs(Operation::Fetch, &specs, &items)?;
-/// let Validated::Passed { rows, fixes } = validated(Operation::Fetch, &specs, &listing)? else {
-///     panic!("no destination has two sources");
-/// };
-/// assert_eq!((list::rows(&rows).count(), list::fixes(&fixes).count()), (2, 2));
-/// # Ok::<(), vasigmon::ListRefusal>(())
-/// ```
-pub fn validated(op: Operation, specs: &[u8], rows: &[u8]) -> Result<Validated, ListRefusal> {
-    let (mut out, mut fixes) = (vec![0; 256], vec![0; 64]);
-    loop {
-        let answer = raw::validated(op as u64, specs, rows, &mut out, &mut fixes);
-        if answer.refusal == Refusal::BufferTooShort.number() {
+impl Group {
+    /// Whether rows can be used: each destination has one source only.
+    ///
+    /// The rows are a listing, as [`Group::match_lhs`] answers it, or any others whose
+    /// spec numbers are in the group, of at most 1,048,576 bytes. A name and an object id
+    /// are always different sources.
+    ///
+    /// ```
+    /// use vasigmon::{Group, Items, Operation, Validated, list};
+    ///
+    /// let items = Items::new(["refs/heads/a", "refs/heads/b"])?;
+    /// let group = Group::new(Operation::Fetch, ["refs/heads/*:refs/x/*", "refs/heads/a:refs/x/b"])?;
+    /// let Validated::Conflicts(conflicts) = group.validated(&group.match_lhs(&items))? else {
+    ///     panic!("refs/x/b has two sources");
+    /// };
+    /// assert_eq!(list::conflicts(&conflicts).next().unwrap().destination, b"refs/x/b");
+    ///
+    /// let group = Group::new(Operation::Fetch, ["refs/heads/*:refs/x/*", "refs/*:y/*"])?;
+    /// let Validated::Passed { rows, fixes } = group.validated(&group.match_lhs(&items))? else {
+    ///     panic!("no destination has two sources");
+    /// };
+    /// assert_eq!((list::rows(&rows).count(), list::fixes(&fixes).count()), (2, 2));
+    /// # Ok::<(), vasigmon::ListRefusal>(())
+    /// ```
+    pub fn validated(&self, rows: &[u8]) -> Result<Validated, ListRefusal> {
+        let (mut out, mut fixes) = (vec![0; FIRST], vec![0; FIRST]);
+        let answer = loop {
+            let answer = raw::validated(self.operation() as u64, self.list(), rows, &mut out, &mut fixes);
+            if answer.refusal != Refusal::BufferTooShort.number() {
+                break answer;
+            }
             let short = if answer.buffer == 1 { &mut out } else { &mut fixes };
             short.resize(answer.length as usize, 0);
-            continue;
-        }
-        if answer.refusal != 0 {
-            return Err(at_record(answer.refusal, answer.record));
-        }
+        };
+        ListRefusal::told(answer.refusal, answer.record)?;
         out.truncate(answer.length as usize);
         fixes.truncate(answer.fixes_length as usize);
-        return Ok(match answer.conflicts {
+        Ok(match answer.conflicts {
             0 => Validated::Passed { rows: out, fixes },
             1 => Validated::Conflicts(out),
             number => unreachable!("no validation has the number {number}"),
-        });
+        })
     }
 }
 
@@ -71,11 +68,10 @@ pub fn validated(op: Operation, specs: &[u8], rows: &[u8]) -> Result<Validated, 
 mod tests {
     use super::*;
     use crate::{
+        Items,
+        Operation::{Fetch, Push},
         list::{self, Conflict, ConflictSource, Fix, Source},
-        match_lhs,
-        raw::Validation,
     };
-    use Operation::{Fetch, Push};
 
     const DIGITS: &[u8] = b"0123456789abcdef0123456789abcdef01234567";
 
@@ -92,13 +88,13 @@ mod tests {
 
     #[test]
     fn partial_destinations_go_out_and_are_named() {
-        let specs = list::of([b"a".as_slice(), b"b"]);
+        let group = Group::new(Fetch, ["a", "b"]).unwrap();
         let kept = [row(0, 0, b"a", None), row(1, 0, b"a", Some(b"HEAD")), row(0, 0, b"", Some(b"refs/"))];
         let out =
             [row(1, 0, b"a", Some(b"HEADS")), row(0, 0, b"b", Some(b"")), row(1, 1, DIGITS, Some(b"refs"))];
         let rows =
             [&kept[0], &out[0], &kept[1], &out[1], &kept[2], &out[2], &out[2]].map(Vec::as_slice).concat();
-        let Ok(Validated::Passed { rows, fixes }) = validated(Fetch, &specs, &rows) else { panic!() };
+        let Ok(Validated::Passed { rows, fixes }) = group.validated(&rows) else { panic!() };
         assert_eq!(rows, kept.concat());
         let fix = |name, spec| Fix { name, spec };
         let expected = [fix(b"HEADS".as_slice(), 1), fix(b"", 0), fix(b"refs", 1), fix(b"refs", 1)];
@@ -107,7 +103,7 @@ mod tests {
 
     #[test]
     fn conflicts_come_before_anything_goes_out() {
-        let specs = list::of([b"a".as_slice(), b"b", b"c"]);
+        let group = Group::new(Push, ["a", "b", "c"]).unwrap();
         let rows = [
             row(2, 0, b"z", Some(b"y")),
             row(1, 0, DIGITS, Some(b"x")),
@@ -118,7 +114,7 @@ mod tests {
             row(1, 0, b"a", Some(b"y")),
             row(1, 0, b"a", Some(b"HEAD")),
         ];
-        let Ok(Validated::Conflicts(found)) = validated(Push, &specs, &rows.concat()) else { panic!() };
+        let Ok(Validated::Conflicts(found)) = group.validated(&rows.concat()) else { panic!() };
         let of = |spec, source| ConflictSource { spec, source };
         let x = vec![of(1, Source::Name(DIGITS)), of(0, Source::Object(DIGITS))];
         let y = vec![of(2, Source::Name(b"z")), of(1, Source::Name(b"a"))];
@@ -129,23 +125,23 @@ mod tests {
 
     #[test]
     fn a_source_that_comes_again_is_no_conflict() {
-        let (specs, items) = (list::of([b"a:b".as_slice(), b"+a:b"]), list::of([b"a", b"a"]));
-        let listing = match_lhs(Fetch, &specs, &items).unwrap();
+        let group = Group::new(Fetch, ["a:b", "+a:b"]).unwrap();
+        let listing = group.match_lhs(&Items::new(["a", "a"]).unwrap());
         assert_eq!(list::rows(&listing).count(), 4);
-        assert_eq!(validated(Fetch, &specs, &listing), passed(listing, b""));
+        assert_eq!(group.validated(&listing), passed(listing, b""));
     }
 
     #[test]
     fn nothing_passes() {
-        assert_eq!(validated(Fetch, b"", b""), passed(vec![], b""));
+        assert_eq!(Group::new(Fetch, [""; 0]).unwrap().validated(b""), passed(vec![], b""));
     }
 
     #[test]
     fn refusals_name_the_row() {
         let refused = |refusal, record| Err(ListRefusal { refusal, record });
-        let specs = list::of([b"a"]);
+        let group = Group::new(Fetch, ["a"]).unwrap();
         let good = row(0, 0, b"a", Some(b"b"));
-        let second = |bad: &[u8]| validated(Fetch, &specs, &[&good, bad].concat());
+        let second = |bad: &[u8]| group.validated(&[&good, bad].concat());
         let outside = refused(Refusal::OutsideTheLists, Some(1));
         assert_eq!(second(&row(1, 0, b"a", None)), outside);
         assert_eq!(second(&row(0, 2, b"a", None)), outside);
@@ -154,51 +150,16 @@ mod tests {
         assert_eq!(second(b"\x00\x00\x02\x01a\x00\x80"), outside, "16 of a row before 13 of the next");
         assert_eq!(second(b"\x00\x00\x80\x00\x01a\x00"), refused(Refusal::Malformed, Some(1)));
         assert_eq!(second(&good[..good.len() - 1]), refused(Refusal::Malformed, Some(1)));
-        let long = vec![0; 1_048_577];
-        assert_eq!(validated(Fetch, &specs, &long), refused(Refusal::ListTooLong, None));
-        assert_eq!(validated(Fetch, b"\x02a*", &long), refused(Refusal::OneStarOfTwo, Some(0)));
-        let operation = raw::validated(2, b"\x02a*", &long, &mut [], &mut []);
-        assert_eq!(operation, Validation { refusal: 18, ..Default::default() });
+        assert_eq!(group.validated(&vec![0; 1_048_577]), refused(Refusal::ListTooLong, None));
     }
 
     #[test]
     fn answers_longer_than_the_first_buffers() {
         let name = [b'n'; 100];
-        let specs = list::of([b"a"]);
+        let group = Group::new(Fetch, ["a"]).unwrap();
         let kept = row(0, 0, &name, Some(&[b"refs/".as_slice(), &name].concat())).repeat(3);
         let out = row(0, 0, &name, Some(&name)).repeat(3);
         let fixes = [&[100], &name[..], &[0]].concat().repeat(3);
-        assert_eq!(validated(Fetch, &specs, &[&kept[..], &out].concat()), passed(kept, &fixes));
-    }
-
-    #[test]
-    fn lent_buffers_keep_the_rules() {
-        let specs = list::of([b"a"]);
-        let (kept, out) = (row(0, 0, b"a", None), row(0, 0, b"a", Some(b"b")));
-        let rows = [kept.clone(), out].concat();
-        let lend = |rows: &[u8], first: usize, second: usize| {
-            let (mut out, mut fixes) = (vec![b'#'; first], vec![b'#'; second]);
-            (raw::validated(0, &specs, rows, &mut out, &mut fixes), out, fixes)
-        };
-        for (first, second, short, need) in [(5, 0, 1, 6), (0, 9, 1, 6), (6, 2, 2, 3), (9, 0, 2, 3)] {
-            let (answer, out, fixes) = lend(&rows, first, second);
-            let length = answer.length;
-            assert_eq!(answer, Validation { refusal: 17, buffer: short, length, ..Default::default() });
-            assert!((need..=2 * need).contains(&length));
-            assert_eq!((out, fixes), (vec![b'#'; first], vec![b'#'; second]));
-        }
-        let (answer, out, fixes) = lend(&rows, 7, 4);
-        assert_eq!(answer, Validation { length: 6, fixes_length: 3, ..Default::default() });
-        assert_eq!((out, fixes), ([&kept[..], b"#"].concat(), b"\x01b\x00#".to_vec()));
-
-        let rows = [row(0, 0, b"a", Some(b"x")), row(0, 0, b"b", Some(b"x"))].concat();
-        for length in [0, 2] {
-            let (answer, out, fixes) = lend(&rows, 12, length);
-            assert_eq!(answer, Validation { conflicts: 1, length: 11, ..Default::default() });
-            assert_eq!(
-                (&out[..], &fixes[..]),
-                (b"\x01x\x02\0\0\x01a\0\0\x01b#".as_slice(), &b"##"[..length])
-            );
-        }
+        assert_eq!(group.validated(&[&kept[..], &out].concat()), passed(kept, &fixes));
     }
 }

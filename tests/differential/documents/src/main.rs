@@ -59,10 +59,11 @@ fn becomes(op: Operation, spec: &[u8]) -> Vec<String> {
 }
 
 fn accepted(op: Operation, spec: &[u8]) -> Result<Vec<String>, Refusal> {
+    let spec = vasigmon::parse(op, spec)?;
     Ok(vec![
-        words(vasigmon::instruction(op, spec)?),
-        format!("text {}", shown(&vasigmon::to_bstring(op, spec)?)),
-        vasigmon::prefix(op, spec)?.map_or("no prefix".into(), |prefix| format!("prefix {}", shown(prefix))),
+        words(spec.instruction()),
+        format!("text {}", shown(&spec.to_bstring())),
+        spec.prefix().map_or("no prefix".into(), |prefix| format!("prefix {}", shown(prefix))),
     ])
 }
 

@@ -153,5 +153,5 @@ fn is_lower(text: &[u8]) -> bool {
 /// Whether a name passes the name rules, as the destination of a spec.
 fn well_formed(name: &[u8]) -> bool {
     vasigmon::parse(Operation::Fetch, &[b"a:", name].concat())
-        .is_ok_and(|spec| spec.destination == Some(name))
+        .is_ok_and(|spec| spec.destination() == Some(name))
 }

@@ -3,29 +3,28 @@
 use crate::outcome::{Outcome, Text};
 use std::collections::{BTreeMap, HashSet};
 use vasigmon::{
-    Operation,
-    list::{self, Row, Source},
-    match_lhs,
+    Group, Items, Operation, Validated,
+    list::{self, Row},
 };
 
 /// What comes of these specs on these refs.
 pub fn fetch(specs: &[Text], names: &[Text]) -> Outcome {
-    let specs = list::of(specs);
-    let listing = match match_lhs(Operation::Fetch, &specs, &list::of(names)) {
-        Ok(listing) => listing,
+    let group = match Group::new(Operation::Fetch, specs) {
+        Ok(group) => group,
         Err(why) => {
             let record = why.record.map_or(String::new(), |record| format!("spec {record} "));
             return Outcome::Refused(format!("refuse {record}with {}", why.refusal.number()));
         }
     };
-    let (out, fixes) = validated(&specs, &listing);
-    let Some(fixes) = fixes else {
-        return first_conflict(&listing, &out);
+    let listing = group.match_lhs(&Items::new(names).expect("names are accepted"));
+    let (out, fixes) = match group.validated(&listing).expect("a listing is accepted") {
+        Validated::Passed { rows, fixes } => (rows, fixes),
+        Validated::Conflicts(conflicts) => return first_conflict(&listing, &conflicts),
     };
     let (mut fetched, mut written) = (Vec::new(), BTreeMap::new());
     let mut met = HashSet::new();
     for row in in_git_order(&out) {
-        let source = text(row.source).to_vec();
+        let source = row.source.text().to_vec();
         // Git too writes a ref once where rows repeat others.
         if row.destination.is_none_or(|destination| met.insert(destination)) {
             fetched.push(source.clone());
@@ -36,14 +35,6 @@ pub fn fetch(specs: &[Text], names: &[Text]) -> Outcome {
     }
     let left_out = list::fixes(&fixes).map(|fix| fix.name.to_vec()).collect();
     Outcome::Done { fetched, written, left_out }
-}
-
-/// The bytes for the first buffer, and for the second unless there are conflicts.
-fn validated(specs: &[u8], listing: &[u8]) -> (Vec<u8>, Option<Vec<u8>>) {
-    match vasigmon::validated(Operation::Fetch, specs, listing).expect("a listing is accepted") {
-        vasigmon::Validated::Passed { rows, fixes } => (rows, Some(fixes)),
-        vasigmon::Validated::Conflicts(conflicts) => (conflicts, None),
-    }
 }
 
 /// The rows of a listing in the order of their specs, those of object ids too.
@@ -62,12 +53,6 @@ fn first_conflict(listing: &[u8], conflicts: &[u8]) -> Outcome {
         rows.iter().position(|row| row.destination == Some(conflict.destination) && row.source == second)
     };
     let conflict = list::conflicts(conflicts).min_by_key(seen).expect("there is one");
-    let [one, other] = [0, 1].map(|n| text(conflict.sources[n].source).to_vec());
+    let [one, other] = [0, 1].map(|n| conflict.sources[n].source.text().to_vec());
     Outcome::Conflict { sources: [one, other], destination: conflict.destination.to_vec() }
-}
-
-/// The name, or the digits of an object id.
-pub fn text(source: Source<'_>) -> &[u8] {
-    let (Source::Name(text) | Source::Object(text)) = source;
-    text
 }

@@ -20,7 +20,7 @@ use crate::{
     work,
 };
 use std::{borrow::Cow, time::Instant};
-use vasigmon::{Operation, raw::Validation};
+use vasigmon::{Group, Items, Operation, raw::Validation};
 
 /// How many cases a thread takes at a time.
 const CHUNK: u64 = 64;
@@ -71,7 +71,10 @@ impl Case {
         };
         match &self.second {
             Second::Rows(rows) => Some(rows.into()),
-            Second::Items(items) => Some(vasigmon::match_lhs(op, &self.specs, items).ok()?.into()),
+            Second::Items(items) => {
+                let group = Group::from_list(op, self.specs.clone()).ok()?;
+                Some(group.match_lhs(&Items::from_list(items.clone()).ok()?).into())
+            }
         }
     }
 
