@@ -1,9 +1,13 @@
 //! Stands in for the crate `gix-validate`: whether a name is a well-formed
 //! partial reference name. The crate's own decision is not at hand; this one is
 //! written from the git-check-ref-format manual with --allow-onelevel, one
-//! function for each of the manual's rules, in its order.
+//! function for each of the manual's rules, in its order. With the feature `one-pass`
+//! the same is decided in one pass, so that times are not those of ten.
+
+mod one_pass;
 
 pub mod reference {
+    use crate::one_pass;
     use bstr::BStr;
 
     /// Passes a name on, if it keeps all of the manual's rules.
@@ -12,6 +16,10 @@ pub mod reference {
     }
 
     fn well_formed(name: &[u8]) -> bool {
+        if cfg!(feature = "one-pass") { one_pass::well_formed(name) } else { by_the_rules(name) }
+    }
+
+    pub(crate) fn by_the_rules(name: &[u8]) -> bool {
         !name.is_empty()
             && name.split(|b| *b == b'/').all(component_is_fine)
             && !holds(name, b"..")

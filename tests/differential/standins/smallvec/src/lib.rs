@@ -1,36 +1,51 @@
 //! Stands in for the crate `smallvec`: a vector, as far as gix-refspec uses one.
 
-use std::{
-    marker::PhantomData,
-    ops::{Deref, DerefMut},
-};
+use std::ops::{Deref, DerefMut};
 
-/// A vector of bytes. The array that would be held in place is a name only.
-pub struct SmallVec<A> {
-    bytes: Vec<u8>,
-    array: PhantomData<A>,
+/// A vector of bytes, in its array as long as they fit there.
+pub enum SmallVec<A> {
+    Held { array: A, length: usize },
+    Spilled(Vec<u8>),
 }
 
 impl<const N: usize> SmallVec<[u8; N]> {
     pub fn with_capacity(capacity: usize) -> Self {
-        SmallVec { bytes: Vec::with_capacity(capacity), array: PhantomData }
+        if capacity <= N {
+            return SmallVec::Held { array: [0; N], length: 0 };
+        }
+        SmallVec::Spilled(Vec::with_capacity(capacity))
     }
 
     pub fn extend_from_slice(&mut self, bytes: &[u8]) {
-        self.bytes.extend_from_slice(bytes);
+        match self {
+            SmallVec::Held { array, length } if bytes.len() <= N - *length => {
+                array[*length..][..bytes.len()].copy_from_slice(bytes);
+                *length += bytes.len();
+            }
+            SmallVec::Held { array, length } => {
+                *self = SmallVec::Spilled([&array[..*length], bytes].concat());
+            }
+            SmallVec::Spilled(all) => all.extend_from_slice(bytes),
+        }
     }
 }
 
-impl<A> Deref for SmallVec<A> {
+impl<const N: usize> Deref for SmallVec<[u8; N]> {
     type Target = [u8];
 
     fn deref(&self) -> &[u8] {
-        &self.bytes
+        match self {
+            SmallVec::Held { array, length } => &array[..*length],
+            SmallVec::Spilled(all) => all,
+        }
     }
 }
 
-impl<A> DerefMut for SmallVec<A> {
+impl<const N: usize> DerefMut for SmallVec<[u8; N]> {
     fn deref_mut(&mut self) -> &mut [u8] {
-        &mut self.bytes
+        match self {
+            SmallVec::Held { array, length } => &mut array[..*length],
+            SmallVec::Spilled(all) => all,
+        }
     }
 }
