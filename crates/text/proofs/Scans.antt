@@ -20,14 +20,11 @@ byte-other : (x b : ℕ) → (x ≡ b → ⊥) → eqb b x ≡ false
 byte-other x b n = ne-eqb b x (λ e. n (sym e))
 
 module _ (p s : Text) (i : ℕ) (inv : begins (drop i p) (drop i s) ≡ begins p s) where
-  pub begins-short : i < length p → length s ≤ i → false ≡ begins p s
-  begins-short h l = rw (rest-cons p i h, rest-end s i l) at inv
+  pub begins-other : length p ≤ length s → i < length p → (getD s i 0 ≡ getD p i 0 → ⊥) → false ≡ begins p s
+  begins-other l h n = rw (rest-cons p i h, rest-cons s i (omega arith), byte-other _ _ n) at inv
 
-  pub begins-other : i < length p → i < length s → (getD s i 0 ≡ getD p i 0 → ⊥) → false ≡ begins p s
-  begins-other h l n = rw (rest-cons p i h, rest-cons s i l, byte-other _ _ n) at inv
-
-  pub begins-more : i < length p → i < length s → getD s i 0 ≡ getD p i 0 → begins (drop (i + 1) p) (drop (i + 1) s) ≡ begins p s
-  begins-more h l e = rw (rest-cons p i h, rest-cons s i l, byte-is _ _ e) at inv
+  pub begins-more : length p ≤ length s → i < length p → getD s i 0 ≡ getD p i 0 → begins (drop (i + 1) p) (drop (i + 1) s) ≡ begins p s
+  begins-more l h e = rw (rest-cons p i h, rest-cons s i (omega arith), byte-is _ _ e) at inv
 
   pub begins-done : length p ≤ i → true ≡ begins p s
   begins-done h = rw (rest-end p i h) at inv

@@ -1,3 +1,4 @@
--- What contracts on byte texts cite beside the meaning: places of a byte, and a text written into a buffer.
+-- What contracts on byte texts cite beside the meaning: places of a byte, a text written into a buffer, and several bytes as one number.
 pub mod Place
 pub mod Splice
+pub mod Word
