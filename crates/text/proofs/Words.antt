@@ -105,46 +105,45 @@ block-decides p s f g k i x y n m d e =
     rw (d, e, ← drop-drop k i p, ← drop-drop k i s)
     (number-decides k 0 (drop i p) (drop i s) (rw length-drop (omega arith)) (rw length-drop (omega arith)) (bytes-drop i p f) (bytes-drop i s g))
 
--- k bytes from i on are asked, with what is left from there deciding as the whole
+-- k bytes from i on are asked
 module _ (p s : Text) (k i : ℕ) (r : Bool) (d : begins (drop i p) (drop i s) ≡ (r and begins (drop (i + k) p) (drop (i + k) s))) where
-  pub block-other : begins (drop i p) (drop i s) ≡ begins p s → not r ≡ true → false ≡ begins p s
-  block-other inv q = sym (rw (not-true r q) at d) ∙ inv
+  -- where they differ, all is decided
+  pub block-other : not r ≡ true → false ≡ begins p s
+  block-other q = go (begins p s) refl
+    where
+      here : begins (drop i p) (drop i s) ≡ false
+      here = rw (not-true r q) at d
 
+      go : (t : Bool) → begins p s ≡ t → false ≡ t
+      go true e = absurd (false≢true (sym here ∙ begins-later i p s e))
+      go false e = refl
+
+  -- where they are the same, what is left decides as before
   pub block-same : begins (drop i p) (drop i s) ≡ begins p s → not r ≡ false → begins (drop (i + k) p) (drop (i + k) s) ≡ begins p s
   block-same inv q = sym (rw (not-false r q) at d) ∙ inv
 
-  -- the last k bytes decide, where all before them, and perhaps some of them, are known to be the same
-  block-last : (j : ℕ) → i ≤ j → length p ≤ i + k → begins (drop j p) (drop j s) ≡ begins p s → r ≡ begins p s
-  block-last j h l inv = go r here
+  -- where they are the same and the last of p, nothing is left to ask from i on
+  block-last : not r ≡ false → length p ≤ i + k → (j : ℕ) → i ≤ j → begins (drop j p) (drop j s) ≡ true
+  block-last q l j h =
+      let c : i + (j - i) ≡ j = omega arith in
+      rw (drop-drop (j - i) i p, drop-drop (j - i) i s, c) at (begins-later (j - i) (drop i p) (drop i s) here)
     where
-      here : begins (drop i p) (drop i s) ≡ (r and true)
-      here = d ∙ rw (begins-nothing (drop (i + k) p) (drop (i + k) s) (rw length-drop (omega arith)))
+      here : begins (drop i p) (drop i s) ≡ true
+      here = rw (not-false r q, begins-nothing (drop (i + k) p) (drop (i + k) s) (rw length-drop (omega arith))) at d
 
-      later : begins (drop i p) (drop i s) ≡ true → begins (drop j p) (drop j s) ≡ true
-      later t =
-          let c : i + (j - i) ≡ j = omega arith in
-          rw (drop-drop (j - i) i p, drop-drop (j - i) i s, c) at (begins-later (j - i) (drop i p) (drop i s) t)
+-- the last eight bytes are the same, and so is each eight before them
+pub eights-all : (p s : Text) (i : ℕ) (r : Bool) → 8 ≤ length p → begins (drop (length p - 8) p) (drop (length p - 8) s) ≡ (r and begins (drop (length p - 8 + 8) p) (drop (length p - 8 + 8) s)) → not r ≡ false
+    → begins (drop i p) (drop i s) ≡ begins p s → length p - 8 ≤ i → true ≡ begins p s
+eights-all p s i r h d q inv l = sym (block-last p s 8 (length p - 8) r d q (omega arith) i l) ∙ inv
 
-      never : begins (drop i p) (drop i s) ≡ false → (t : Bool) → begins p s ≡ t → false ≡ t
-      never n true e = absurd (false≢true (sym n ∙ begins-later i p s e))
-      never n false e = refl
-
-      go : (t : Bool) → begins (drop i p) (drop i s) ≡ (t and true) → t ≡ begins p s
-      go true e = sym (later e) ∙ inv
-      go false e = never e (begins p s) refl
-
--- each eight bytes, and the last eight
-module _ (p s : Text) (i : ℕ) (r : Bool) (h : 8 ≤ length p) where
-  pub eights-last : begins (drop i p) (drop i s) ≡ begins p s → length p - 8 ≤ i → begins (drop (length p - 8) p) (drop (length p - 8) s) ≡ (r and begins (drop (length p - 8 + 8) p) (drop (length p - 8 + 8) s)) → r ≡ begins p s
-  eights-last inv l d = block-last p s 8 (length p - 8) r d i l (omega arith) inv
-
--- the first four bytes, and the last four
-pub fours-last : (p s : Text) (q r : Bool) → 4 ≤ length p → length p < 8 → begins (drop 0 p) (drop 0 s) ≡ (q and begins (drop (0 + 4) p) (drop (0 + 4) s)) → not q ≡ false
-    → begins (drop (length p - 4) p) (drop (length p - 4) s) ≡ (r and begins (drop (length p - 4 + 4) p) (drop (length p - 4 + 4) s)) → r ≡ begins p s
-fours-last p s q r h l d f e = block-last p s 4 (length p - 4) r e 4 (omega arith) (omega arith) (block-same p s 4 0 q d refl f)
-
-pub fours-other : (p s : Text) (q : Bool) → begins (drop 0 p) (drop 0 s) ≡ (q and begins (drop (0 + 4) p) (drop (0 + 4) s)) → not q ≡ true → false ≡ begins p s
-fours-other p s q d t = block-other p s 4 0 q d refl t
+-- the last four bytes are the same, and the first four decide
+pub fours-first : (p s : Text) (q r : Bool) → 4 ≤ length p → length p < 8 → begins (drop (length p - 4) p) (drop (length p - 4) s) ≡ (q and begins (drop (length p - 4 + 4) p) (drop (length p - 4 + 4) s)) → not q ≡ false
+    → begins (drop 0 p) (drop 0 s) ≡ (r and begins (drop (0 + 4) p) (drop (0 + 4) s)) → r ≡ begins p s
+fours-first p s q r h l d f e = go r (e ∙ rw (block-last p s 4 (length p - 4) q d f (omega arith) 4 (omega arith)))
+  where
+    go : (t : Bool) → begins p s ≡ (t and true) → t ≡ begins p s
+    go true c = sym c
+    go false c = sym c
 
 -- a text begins with none that is longer
 pub begins-longer : (p s : Text) → length s < length p → false ≡ begins p s

@@ -4,7 +4,7 @@ use Prim.Native.Nat.{_-_}
 use native.Mathlib.Omega.{arith}
 use lib.ListN.{length, drop}
 use Rattle.meaning.specs.Bytes.{begins}
-use Rattle.text.proofs.Words.{block-other, block-same, eights-last}
+use Rattle.text.proofs.Words.{block-other, block-same, eights-all}
 use borrow.Author.Needs.{needs}
 use Rattle.text.proofs.begins_by_eights.Statement.{statement}
 use Rattle.text.proofs.begins_by_eights.Tie as tie
@@ -18,14 +18,20 @@ abbrev μ-loop : tie.MeasureT-loop
 sub-last : tie.Need-sub-last Inv-loop μ-loop
 sub-last c = search needs
 
-loop-holds : tie.Need-loop-holds Inv-loop μ-loop
-loop-holds c = refl
-
 eight-agree-requires : tie.Need-eight-agree-requires Inv-loop μ-loop
 eight-agree-requires c κs = search needs
 
 returns : tie.Need-returns Inv-loop μ-loop
 returns c = search block-other
+
+loop-holds : tie.Need-loop-holds Inv-loop μ-loop
+loop-holds c = refl
+
+eight-agree-requires-2 : tie.Need-eight-agree-requires-2 Inv-loop μ-loop
+eight-agree-requires-2 c κs = search needs
+
+returns-2 : tie.Need-returns-2 Inv-loop μ-loop
+returns-2 c = search block-other
 
 add-i : tie.Need-add-i Inv-loop μ-loop
 add-i c = search needs
@@ -36,11 +42,8 @@ loop-less c = search needs
 loop-again : tie.Need-loop-again Inv-loop μ-loop
 loop-again c = search block-same
 
-eight-agree-requires-2 : tie.Need-eight-agree-requires-2 Inv-loop μ-loop
-eight-agree-requires-2 c κs = search needs
-
-returns-2 : tie.Need-returns-2 Inv-loop μ-loop
-returns-2 c = search eights-last
+returns-3 : tie.Need-returns-3 Inv-loop μ-loop
+returns-3 c = search eights-all
 
 pub begins-by-eights-spec : {M : Type 1} → statement M
 begins-by-eights-spec =
@@ -49,11 +52,12 @@ begins-by-eights-spec =
     Inv-loop
     μ-loop
     sub-last
-    loop-holds
     eight-agree-requires
     returns
+    loop-holds
+    eight-agree-requires-2
+    returns-2
     add-i
     loop-less
     loop-again
-    eight-agree-requires-2
-    returns-2)
+    returns-3)
