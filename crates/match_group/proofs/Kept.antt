@@ -1,15 +1,17 @@
 -- One item under one spec, and one object source: the row that stands or is gone. Assumes nothing.
 use mathlib.Core.Path.{_≡_, refl, sym, ap, _∙_, subst}
-use mathlib.Core.Bool.{Bool, true, false, cond}
+use mathlib.Core.Bool.{Bool, true, false, not, cond}
 use mathlib.Core.List.{List, [], _∷_, _++_, append-nil}
 use mathlib.Core.Option.{Option, none, some}
 use Prim.Native.Nat.{ℕ, zero, suc, _+_, _≤_, _<_}
 use native.Mathlib.Omega.{arith}
+use borrow.Author.Tests.{not-true}
 use native.Mathlib.Nat.{add-zero}
 use native.Mathlib.Numerals.{add-one}
 use lib.ListN.{length, take}
 use lib.Seq.{take-append-seam}
 use Rattle.meaning.specs.Bytes.{Text, orEmpty}
+use Rattle.meaning.specs.Limits.{nameBytes}
 use Rattle.meaning.specs.Spec.{Spec}
 use Rattle.meaning.specs.Rows.{rowBytes, rowListOf}
 use Rattle.meaning.specs.Listing as listing
@@ -22,12 +24,14 @@ use Rattle.matcher.specs.declared.types.Made.the-variants.{Name}
 use Rattle.matcher.specs.declared.types.Ends.{Ends}
 use Rattle.matcher.specs.declared.types.Ends.the-variants.{Nothing, Row as Found}
 use Rattle.matcher.specs.Matching.{madeMeant, endsMeant, MadeWithin, EndsWithin, Matches, objectEnds, objectRowOf}
+use Rattle.matcher.specs.declared.filter.Filter.{Filter}
+use Rattle.matcher.specs.Filters.{passes, StopsForward, StopsReverse}
 use Rattle.matcher.proofs.Objects.{object-rows}
 use Rattle.exclude.specs.Negatives.{excludedBy}
 use Rattle.match_group.specs.declared.row.Row.{Row}
 use Rattle.match_group.specs.Rows.{RowWithin, rowMeant, keptBytes, objectPlaces}
 use Rattle.match_group.specs.Listing.{endsIn, itemBytes, objectBytes}
-use Rattle.match_group.specs.Loops.{Ready, EndsTold, Measures, Room, Put, Puts, Scratch}
+use Rattle.match_group.specs.Loops.{Ready, Stops, EndsTold, Measures, Room, Put, Puts, Scratch}
 use Rattle.match_group.proofs.Listings.{item-nothing, source-short}
 
 -- the direction that is asked for
@@ -191,3 +195,23 @@ module _ (specs : Text) (m : Matcher) (s : Spec) (k : Matches specs s m) (i : �
 
     pub object-put : (d : Text) (at : ℕ) (o : Text) (n : ℕ) → Put d at (rowBytes (rowMeant specs [] (objectPlaces i source destination))) o n → Put d at (objectBytes i s) o n
     object-put d at o n p = rw object-is p
+
+-- ---- a filter
+module _ (back : Bool) (specs : Text) (m : Matcher) (f : Filter) where
+  pub stops-back : back ≡ true → StopsReverse specs m f → Stops back specs m f
+  stops-back e h = rw e (record { stops = h .stops; within = h .within })
+
+  pub stops-on : back ≡ false → StopsForward specs m f → Stops back specs m f
+  stops-on e h = rw e (record { stops = h .stops; within = h .within })
+
+  -- what is stopped gives nothing
+  module _ (h : Stops back specs m f) (name : Text) (l : length name ≤ nameBytes) (r : Bool) (e : r ≡ passes specs f name) (n : not r ≡ true) (gone : Text → Bool) (i j : ℕ) where
+    item-stopped : (s : Spec) → Matches specs s m → itemBytes back gone i j name s ≡ []
+    unfolding itemBytes
+    item-stopped s k = rw (h .stops name l (sym e ∙ not-true r n) s k)
+
+    pub stopped-measured : Measures specs m (itemBytes back gone i j name) 0
+    stopped-measured = record { measures = λ s k. rw (item-stopped s k) }
+
+    pub stopped-put : (d : Text) (at : ℕ) → Puts specs m (itemBytes back gone i j name) d at d at
+    stopped-put d at = record { puts = λ s k. rw (item-stopped s k) (record { puts = sym (splice-none d at); ends = sym (add-zero at) }) }

@@ -1,12 +1,12 @@
 -- What the loops of a listing ask and answer.
 use Prim.Native.Nat.{ℕ, _+_, _*_, _≤_, _<_}
 use mathlib.Core.Path.{_≡_}
-use mathlib.Core.Bool.{Bool}
-use mathlib.Core.Option.{some}
+use mathlib.Core.Bool.{Bool, false}
+use mathlib.Core.Option.{none, some}
 use mathlib.Core.List.{List}
 use lib.ListN.{length, take, getD}
 use Rattle.meaning.specs.Bytes.{Text}
-use Rattle.meaning.specs.Limits.{listBytes, specCount, specBytes}
+use Rattle.meaning.specs.Limits.{listBytes, specCount, specBytes, nameBytes}
 use Rattle.meaning.specs.Spec.{Spec, accepted}
 use Rattle.meaning.specs.Lists.{readItems}
 use Rattle.parse.specs.declared.types.RefSpec.{RefSpec}
@@ -16,6 +16,8 @@ use Rattle.parse.specs.Places.{sideMeant, SidesWithin}
 use Rattle.text.specs.Splice.{splice}
 use Rattle.matcher.specs.declared.types.Matcher.{Matcher}
 use Rattle.matcher.specs.declared.types.Ends.{Ends}
+use Rattle.matcher.specs.declared.filter.Filter.{Filter}
+use Rattle.matcher.specs.Filters.{passes}
 use Rattle.matcher.specs.Matching.{endsMeant, EndsWithin, Matches}
 use Rattle.match_group.specs.Listing.{endsIn}
 use Rattle.exclude.specs.Negatives.{negativeAt, NegativeWithin}
@@ -36,6 +38,11 @@ pub record Ready (specs : Text) (m : Matcher) (i : ℕ) : Type 0 where
   pub spec : Spec
   pub matches : Matches specs spec m
   pub short : (t : Text) → spec .source ≡ some t → length t ≤ specBytes
+
+-- what a filter stops has no row under the spec of a matcher, forward or in reverse
+pub record Stops (back : Bool) (specs : Text) (m : Matcher) (f : Filter) : Type 0 where
+  pub stops : (name : Text) → length name ≤ nameBytes → passes specs f name ≡ false → (s : Spec) → Matches specs s m → endsIn back s name ≡ none
+  pub within : f .at + f .len ≤ length specs
 
 -- the ends of a row, as the spec of a matcher makes them of a name
 pub record EndsTold (back : Bool) (specs name : Text) (m : Matcher) (e : Ends) : Type 0 where

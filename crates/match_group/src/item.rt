@@ -8,11 +8,15 @@ ghost use Rattle.matcher.specs.Matching.{madeMeant, MadeWithin, MatcherWithin};
 ghost use Rattle.exclude.specs.Negatives.{excludedBy};
 ghost use Rattle.match_group.specs.Rows.{Lent, keptBytes};
 ghost use Rattle.match_group.specs.Listing.{itemBytes};
-ghost use Rattle.match_group.specs.Loops.{Askable, Scratch, Ready, EndsTold, Measures, Room, Put, Puts};
+ghost use Rattle.match_group.specs.Loops.{Askable, Scratch, Ready, Stops, EndsTold, Measures, Room, Put, Puts};
 use super::row::Row;
 use super::row::put_row;
 use super::row::row_size;
 use exclude::excluded;
+use matcher::filter::Filter;
+use matcher::filter::forward_filter;
+use matcher::filter::passes;
+use matcher::filter::reverse_filter;
 use matcher::forward;
 use matcher::made::made_size;
 use matcher::made::put_made;
@@ -30,6 +34,17 @@ fn ends(back: bool, specs: &[u8], m: Matcher, name: &[u8]) -> Ends
         return reverse(specs, m, name);
     }
     forward(specs, m, name)
+}
+
+// The filter of a spec's rows, forward or in reverse.
+pub(crate) fn filter_of(back: bool, specs: &[u8], m: Matcher) -> Filter
+    requires { ⌜ MatcherWithin (length (now specs)) m × (length (now specs) ≤ listBytes) ⌝ }
+    ensures { λ f. ⌜ Stops back (now (specs .entry)) m f ⌝ }
+{
+    if back {
+        return reverse_filter(specs, m);
+    }
+    forward_filter(specs, m)
 }
 
 // A negative matches a source that is not a name as it stands; it is put together in `scratch`.
@@ -128,8 +143,8 @@ fn put_kept(
     put_row(out, at, specs, name, row)
 }
 
-// How many bytes item j takes under spec i.
-pub(crate) fn item_size(
+// How many bytes item j takes under spec i, which may match it.
+fn matched_size(
     back: bool,
     specs: &[u8],
     m: Matcher,
@@ -162,8 +177,8 @@ pub(crate) fn item_size(
     }
 }
 
-// Writes what item j gives under spec i, and answers the place after it.
-pub(crate) fn put_item(
+// Writes what item j gives under spec i, which may match it, and answers the place after it.
+fn put_matched(
     out: &mut [u8],
     at: usize,
     back: bool,
@@ -198,4 +213,62 @@ pub(crate) fn put_item(
             scratch,
         ),
     }
+}
+
+// How many bytes item j takes under spec i.
+pub(crate) fn item_size(
+    back: bool,
+    specs: &[u8],
+    m: Matcher,
+    f: Filter,
+    i: usize,
+    j: usize,
+    name: &[u8],
+    negatives: &[usize],
+    count: usize,
+    scratch: &mut [u8],
+) -> usize
+    requires { ⌜ Ready (now specs) m i × Stops back (now specs) m f × Askable (now specs) (now negatives) count × (j < itemCount) × (length (now name) ≤ nameBytes) × Scratch (now scratch) ⌝ }
+    ensures { λ r. ⌜ Measures (now (specs .entry)) m (itemBytes back (excludedBy (now (specs .entry)) (now (negatives .entry)) count) i j (now (name .entry))) r × (r ≤ 500000) × (length (now (scratch .exit)) ≡ length (now (scratch .entry))) ⌝ }
+{
+    if !passes(specs, f, name) {
+        return 0;
+    }
+    matched_size(back, specs, m, i, j, name, negatives, count, scratch)
+}
+
+// Writes what item j gives under spec i, and answers the place after it.
+pub(crate) fn put_item(
+    out: &mut [u8],
+    at: usize,
+    back: bool,
+    specs: &[u8],
+    m: Matcher,
+    f: Filter,
+    i: usize,
+    j: usize,
+    name: &[u8],
+    negatives: &[usize],
+    count: usize,
+    scratch: &mut [u8],
+) -> usize
+    requires { ⌜ Ready (now specs) m i × Stops back (now specs) m f × Askable (now specs) (now negatives) count × (j < itemCount) × (length (now name) ≤ nameBytes) × Scratch (now scratch) × Room (now specs) m (itemBytes back (excludedBy (now specs) (now negatives) count) i j (now name)) at (now out) ⌝ }
+    ensures { λ r. ⌜ Puts (now (specs .entry)) m (itemBytes back (excludedBy (now (specs .entry)) (now (negatives .entry)) count) i j (now (name .entry))) (now (out .entry)) at (now (out .exit)) r × (length (now (scratch .exit)) ≡ length (now (scratch .entry))) ⌝ }
+{
+    if !passes(specs, f, name) {
+        return at;
+    }
+    put_matched(
+        out,
+        at,
+        back,
+        specs,
+        m,
+        i,
+        j,
+        name,
+        negatives,
+        count,
+        scratch,
+    )
 }

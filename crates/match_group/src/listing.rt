@@ -10,11 +10,13 @@ ghost use Rattle.parse.specs.Places.{specMeant};
 ghost use Rattle.exclude.specs.Negatives.{excludedBy};
 ghost use Rattle.list.specs.Group.{groupMeant};
 ghost use Rattle.match_group.specs.Listing.{eachFrom, itemsFrom, itemBytes, specBytes, namesOf};
-ghost use Rattle.match_group.specs.Loops.{Askable, Scratch, Ready, Measures, Room, Put, Puts, Readable, SpecReady, TableReady};
+ghost use Rattle.match_group.specs.Loops.{Askable, Scratch, Ready, Stops, Measures, Room, Put, Puts, Readable, SpecReady, TableReady};
+use super::item::filter_of;
 use super::item::item_size;
 use super::item::put_item;
 use list::cursor::Cursor;
 use list::cursor::Step;
+use matcher::filter::Filter;
 use matcher::matcher;
 use matcher::types::Matcher;
 use parse::types::RefSpec;
@@ -25,13 +27,14 @@ fn items_size(
     back: bool,
     specs: &[u8],
     m: Matcher,
+    f: Filter,
     i: usize,
     items: &[u8],
     negatives: &[usize],
     count: usize,
     scratch: &mut [u8],
 ) -> usize
-    requires { ⌜ Ready (now specs) m i × Askable (now specs) (now negatives) count × Readable (now items) × Scratch (now scratch) ⌝ }
+    requires { ⌜ Ready (now specs) m i × Stops back (now specs) m f × Askable (now specs) (now negatives) count × Readable (now items) × Scratch (now scratch) ⌝ }
     ensures { λ r. ⌜ Measures (now (specs .entry)) m (itemsFrom (itemBytes back (excludedBy (now (specs .entry)) (now (negatives .entry)) count) i) 0 (namesOf (readItems (now (items .entry))))) r × (r ≤ 512000000) × (length (now (scratch .exit)) ≡ length (now (scratch .entry))) ⌝ }
 {
     let mut size = 0;
@@ -45,6 +48,7 @@ fn items_size(
                     back,
                     specs,
                     m,
+                    f,
                     i,
                     j,
                     &items[start..end],
@@ -72,13 +76,14 @@ fn put_items(
     back: bool,
     specs: &[u8],
     m: Matcher,
+    f: Filter,
     i: usize,
     items: &[u8],
     negatives: &[usize],
     count: usize,
     scratch: &mut [u8],
 ) -> usize
-    requires { ⌜ Ready (now specs) m i × Askable (now specs) (now negatives) count × Readable (now items) × Scratch (now scratch) × Room (now specs) m (itemsFrom (itemBytes back (excludedBy (now specs) (now negatives) count) i) 0 (namesOf (readItems (now items)))) at (now out) ⌝ }
+    requires { ⌜ Ready (now specs) m i × Stops back (now specs) m f × Askable (now specs) (now negatives) count × Readable (now items) × Scratch (now scratch) × Room (now specs) m (itemsFrom (itemBytes back (excludedBy (now specs) (now negatives) count) i) 0 (namesOf (readItems (now items)))) at (now out) ⌝ }
     ensures { λ r. ⌜ Puts (now (specs .entry)) m (itemsFrom (itemBytes back (excludedBy (now (specs .entry)) (now (negatives .entry)) count) i) 0 (namesOf (readItems (now (items .entry))))) (now (out .entry)) at (now (out .exit)) r × (length (now (scratch .exit)) ≡ length (now (scratch .entry))) ⌝ }
 {
     let mut end = at;
@@ -94,6 +99,7 @@ fn put_items(
                     back,
                     specs,
                     m,
+                    f,
                     i,
                     j,
                     &items[start..stop],
@@ -133,7 +139,8 @@ fn spec_size(
         return 0;
     }
     let m = matcher(specs, r);
-    items_size(back, specs, m, i, items, negatives, count, scratch)
+    let f = filter_of(back, specs, m);
+    items_size(back, specs, m, f, i, items, negatives, count, scratch)
 }
 
 // Writes the rows of spec i, and answers the place after them.
@@ -157,7 +164,20 @@ fn put_spec(
         return at;
     }
     let m = matcher(specs, r);
-    put_items(out, at, back, specs, m, i, items, negatives, count, scratch)
+    let f = filter_of(back, specs, m);
+    put_items(
+        out,
+        at,
+        back,
+        specs,
+        m,
+        f,
+        i,
+        items,
+        negatives,
+        count,
+        scratch,
+    )
 }
 
 // How many bytes the rows of all specs take.

@@ -7,6 +7,7 @@ ghost use Rattle.meaning.specs.Listing.{forwardEnds, reverseEnds};
 ghost use Rattle.parse.specs.Places.{SidesWithin, specMeant};
 ghost use Rattle.matcher.specs.Matching.{endsMeant, EndsWithin, MatcherWithin, Matches, objectEnds};
 
+pub mod filter;
 pub mod made;
 mod needle;
 mod rows;

@@ -1,25 +1,17 @@
--- No row, or the one that the ends make. Assumes nothing.
-use Rattle.match_group.proofs.Kept.{none-put, row-room, row-puts, scratch-room, source-within, destination-within}
+-- What the filter stops gives nothing, and what it lets through is matched.
+use Rattle.match_group.proofs.Kept.{stopped-put}
 use borrow.Author.Needs.{needs}
 use Rattle.match_group.proofs.item.put_item.Statement.{statement}
 use Rattle.match_group.proofs.item.put_item.Tie as tie
-use Rattle.match_group.proofs.item.ends.Reads as ends-reads
-use Rattle.match_group.proofs.item.put_kept.Reads as put-kept-reads
 
-ends-requires : tie.Need-ends-requires
-ends-requires c κs = search needs
-
-enum-told : tie.Need-enum-told
-enum-told c = search needs
-
-enum-known-source : tie.Need-enum-known-source
-enum-known-source c = search needs
-
-put-kept-requires : tie.Need-put-kept-requires
-put-kept-requires c κs = (search needs, search needs, search needs, search needs, search source-within, search destination-within, search scratch-room, search row-room)
+passes-requires : tie.Need-passes-requires
+passes-requires c κs = search needs
 
 returns : tie.Need-returns
-returns c = (search none-put, search needs)
+returns c = (search stopped-put, search needs)
+
+put-matched-requires : tie.Need-put-matched-requires
+put-matched-requires c κs = search needs
 
 same-length : tie.Need-same-length
 same-length c = search needs
@@ -28,17 +20,9 @@ same-length-2 : tie.Need-same-length-2
 same-length-2 c = search needs
 
 returns-2 : tie.Need-returns-2
-returns-2 c = (search row-puts, search needs)
+returns-2 c = (search needs, search needs)
 
 pub put-item-spec : {M : Type 1} → statement M
 put-item-spec =
     tie.close
-    (tie.spec
-    ends-requires
-    enum-told
-    enum-known-source
-    put-kept-requires
-    returns
-    same-length
-    same-length-2
-    returns-2)
+    (tie.spec passes-requires returns put-matched-requires same-length same-length-2 returns-2)

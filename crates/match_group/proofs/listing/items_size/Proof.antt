@@ -13,10 +13,10 @@ use Rattle.list.proofs.cursor.Cursor.next.Reads as next-reads
 use Rattle.match_group.proofs.item.item_size.Reads as item-size-reads
 
 abbrev Inv-loop : tie.InvT-loop
-Inv-loop back specs m i items negatives count scratch₀ size₀ j₀ c₀ scratch size j c = At items (c .at) j × ItemsCounted specs m items (itemBytes back (excludedBy specs negatives count) i) j size × (length scratch ≡ length scratch₀)
+Inv-loop back specs m f i items negatives count scratch₀ size₀ j₀ c₀ scratch size j c = At items (c .at) j × ItemsCounted specs m items (itemBytes back (excludedBy specs negatives count) i) j size × (length scratch ≡ length scratch₀)
 
 abbrev μ-loop : tie.MeasureT-loop
-μ-loop back specs m i items negatives count scratch₀ size₀ j₀ c₀ scratch size j c = length items - c .at
+μ-loop back specs m f i items negatives count scratch₀ size₀ j₀ c₀ scratch size j c = length items - c .at
 
 new-requires : tie.Need-new-requires Inv-loop μ-loop
 new-requires c κs = search needs
@@ -43,7 +43,7 @@ part-item-size-end : tie.Need-part-item-size-end Inv-loop μ-loop
 part-item-size-end c = search next-inside
 
 item-size-requires : tie.Need-item-size-requires Inv-loop μ-loop
-item-size-requires c κs = (search needs, search needs, search next-few, search next-short, search needs)
+item-size-requires c κs = (search needs, search needs, search needs, search next-few, search next-short, search needs)
 
 add-size : tie.Need-add-size Inv-loop μ-loop
 add-size c = search (counted-fits, next-few)

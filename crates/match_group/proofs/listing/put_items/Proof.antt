@@ -13,10 +13,10 @@ use Rattle.list.proofs.cursor.Cursor.next.Reads as next-reads
 use Rattle.match_group.proofs.item.put_item.Reads as put-item-reads
 
 abbrev Inv-loop : tie.InvT-loop
-Inv-loop out₀ at back specs m i items negatives count scratch₀ end₀ j₀ c₀ out scratch end j c = At items (c .at) j × ItemsWritten specs m items (itemBytes back (excludedBy specs negatives count) i) out₀ at j out end × (length scratch ≡ length scratch₀)
+Inv-loop out₀ at back specs m f i items negatives count scratch₀ end₀ j₀ c₀ out scratch end j c = At items (c .at) j × ItemsWritten specs m items (itemBytes back (excludedBy specs negatives count) i) out₀ at j out end × (length scratch ≡ length scratch₀)
 
 abbrev μ-loop : tie.MeasureT-loop
-μ-loop out₀ at back specs m i items negatives count scratch₀ end₀ j₀ c₀ out scratch end j c = length items - c .at
+μ-loop out₀ at back specs m f i items negatives count scratch₀ end₀ j₀ c₀ out scratch end j c = length items - c .at
 
 new-requires : tie.Need-new-requires Inv-loop μ-loop
 new-requires c κs = search needs
@@ -43,7 +43,7 @@ part-put-item-end : tie.Need-part-put-item-end Inv-loop μ-loop
 part-put-item-end c = search next-inside
 
 put-item-requires : tie.Need-put-item-requires Inv-loop μ-loop
-put-item-requires c κs = (search needs, search needs, search next-few, search next-short, search needs, search item-room)
+put-item-requires c κs = (search needs, search needs, search needs, search next-few, search next-short, search needs, search item-room)
 
 add-j : tie.Need-add-j Inv-loop μ-loop
 add-j c = search needs

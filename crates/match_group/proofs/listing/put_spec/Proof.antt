@@ -16,8 +16,11 @@ returns c = (search negative-put, search needs)
 matcher-requires : tie.Need-matcher-requires
 matcher-requires c κs = search needs
 
+filter-of-requires : tie.Need-filter-of-requires
+filter-of-requires c κs = (search needs, search needs)
+
 put-items-requires : tie.Need-put-items-requires
-put-items-requires c κs = (search ready-is, search needs, search needs, search needs, search items-room)
+put-items-requires c κs = (search ready-is, search needs, search needs, search needs, search needs, search items-room)
 
 same-length : tie.Need-same-length
 same-length c = search needs
@@ -35,6 +38,7 @@ put-spec-spec =
     is-negative-requires
     returns
     matcher-requires
+    filter-of-requires
     put-items-requires
     same-length
     same-length-2

@@ -16,8 +16,11 @@ returns c = (search negative-size, search needs, search needs)
 matcher-requires : tie.Need-matcher-requires
 matcher-requires c κs = search needs
 
+filter-of-requires : tie.Need-filter-of-requires
+filter-of-requires c κs = (search needs, search needs)
+
 items-size-requires : tie.Need-items-size-requires
-items-size-requires c κs = (search ready-is, search needs, search needs, search needs)
+items-size-requires c κs = (search ready-is, search needs, search needs, search needs, search needs)
 
 same-length : tie.Need-same-length
 same-length c = search needs
@@ -32,6 +35,7 @@ spec-size-spec =
     is-negative-requires
     returns
     matcher-requires
+    filter-of-requires
     items-size-requires
     same-length
     returns-2)
