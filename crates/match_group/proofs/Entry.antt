@@ -63,9 +63,6 @@ pub listing-fits : (a b : ℕ) → a ≤ 128000000 → b ≤ 131072000000 → a 
 listing-fits a b h k = omega arith
 
 -- how a listing meets its buffer
-pub askable : (specs : Text) (table : List RefSpec) (n : ℕ) (group : List Spec) (negatives : List ℕ) (count : ℕ) → TableReady specs table n → Negatives specs group negatives count → Askable specs negatives count
-askable specs table n group negatives count t k = record { specs-short = t .specs-short; room = k .room; within = k .within }
-
 module _ (back : Bool) (specs : Text) (group : List Spec) (names : List Text) (negatives : List ℕ) (count : ℕ) (neg : Negatives specs group negatives count) (size : ℕ) (es : size ≡ length (listingBytes back (excludedBy specs negatives count) group names)) (d : Text) where
   same-bytes : rowListOf (rowsIn back group names) ≡ listingBytes back (excludedBy specs negatives count) group names
   same-bytes = listing-bytes back (excludedBy specs negatives count) group (neg .decides) names
@@ -75,9 +72,6 @@ module _ (back : Bool) (specs : Text) (group : List Spec) (names : List Text) (n
 
   pub list-short : length d < size → MeetsOne (accepted (some (rowListOf (rowsIn back group names)) ∷ [])) d d 17 0 size
   list-short h = meets-short (accepted (some (rowListOf (rowsIn back group names)) ∷ [])) d d (rowListOf (rowsIn back group names)) 17 0 size refl (omega (arith, same-size)) refl refl refl same-size
-
-  pub list-room : size ≤ length d → length (listingBytes back (excludedBy specs negatives count) group names) ≤ length d
-  list-room h = omega arith
 
   pub list-written : size ≤ length d → (o : Text) → o ≡ splice d 0 (listingBytes back (excludedBy specs negatives count) group names) → MeetsOne (accepted (some (rowListOf (rowsIn back group names)) ∷ [])) d o 0 0 size
   list-written h o e =

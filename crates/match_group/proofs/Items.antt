@@ -32,7 +32,7 @@ namesIn items = namesOf (readItems items)
 abbrev pub nameAt : Text → ℕ → ℕ → Text
 nameAt items start len = take (start + len - start) (drop start items)
 
-name-is : (items : Text) (start len : ℕ) → take len (drop start items) ≡ nameAt items start len
+pub name-is : (items : Text) (start len : ℕ) → take len (drop start items) ≡ nameAt items start len
 name-is items start len = let h : len ≡ start + len - start = omega arith in ap (λ n. take n (drop start items)) h
 
 -- where the cursor stands: j items are behind it
@@ -98,9 +98,6 @@ module _ (items : Text) (at j : ℕ) (a : At items at j) (st : Step) (es : st �
   pub refused-item : (n : ℕ) → st ≡ Refused n → drop j (namesIn items) ≡ []
   refused-item n e = items-refused items at j (drop j (namesIn items)) (a .left) n (sym es ∙ e)
 
-pub few-items : (items : Text) (at j : ℕ) → At items at j → j ≤ 1024
-few-items items at j a = omega (arith, a .left .count)
-
 -- what the first j items take under the spec of a matcher is measured
 pub record ItemsCounted (specs : Text) (m : Matcher) (items : Text) (f : ℕ → Text → Spec → Text) (j size : ℕ) : Type 0 where
   pub counted : (s : Spec) → Matches specs s m → Counted (itemsFrom f 0 (namesIn items) s) size (itemsFrom f j (drop j (namesIn items)) s) j 500000
@@ -118,15 +115,6 @@ module _ (specs : Text) (m : Matcher) (items : Text) (f : ℕ → Text → Spec 
   next-text j start len next n s = each-next (λ j name. f j name s) (namesIn items) j (nameAt items start len) (drop (suc j) (namesIn items)) (n .is)
 
   module _ (j size : ℕ) (c : ItemsCounted specs m items f j size) where
-    pub item-counted : (at : ℕ) → At items at j → (st : Step) → st ≡ stepAt items at → (start len : ℕ) (next : Cursor) → st ≡ Record start len next → (n : ℕ) → Measures specs m (f j (nameAt items start len)) n → n ≤ 500000 → ItemsCounted specs m items f (j + 1) (size + n)
-    item-counted at l st es start len next e n h b =
-        let a = next-item items at j l st es start len next e in
-        record {
-          counted = λ s k.
-              counted-more (itemsFrom f 0 (namesIn items) s) size (itemsFrom f j (drop j (namesIn items)) s) j 500000 (c .counted s k)
-              (f j (nameAt items start len) s) (itemsFrom f (j + 1) (drop (j + 1) (namesIn items)) s) (next-text j start len (next .at) a s) n (h .measures s k) b;
-        }
-
     size-small : (i : ℕ) → Ready specs m i → size ≤ j * 500000
     size-small i r = c .counted (r .spec) (r .matches) .small
 

@@ -25,7 +25,7 @@ module _ {A : Type 0} where
       go true = refl
       go false = refl
 
-  each-append : {B : Type 0} (f : A → List B) (l m : List A) → each (l ++ m) f ≡ each l f ++ each m f
+  pub each-append : {B : Type 0} (f : A → List B) (l m : List A) → each (l ++ m) f ≡ each l f ++ each m f
   each-append f [] m = refl
   each-append f (x ∷ l) m = rw (each-append f l m) (sym (append-assoc (f x) (each l f) (each m f)))
 

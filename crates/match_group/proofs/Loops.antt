@@ -42,6 +42,13 @@ drop-rest [] (suc i) x rest e = absurd (let z : _≡_ {A = ℕ} 0 1 = cc in omeg
 drop-rest (y ∷ l) zero x rest e = cc
 drop-rest (y ∷ l) (suc i) x rest e = drop-rest l i x rest e
 
+-- the first of those that are left is there
+pub drop-here : {A : Type 0} (l : List A) (i : ℕ) (x : A) (rest : List A) (d : A) → drop i l ≡ x ∷ rest → (getD l i d ≡ x) × (i < length l)
+drop-here [] zero x rest d e = absurd (let z : _≡_ {A = ℕ} 0 1 = cc in omega arith)
+drop-here [] (suc i) x rest d e = absurd (let z : _≡_ {A = ℕ} 0 1 = cc in omega arith)
+drop-here (y ∷ l) zero x rest d e = (cc, omega arith)
+drop-here (y ∷ l) (suc i) x rest d e = let r = drop-here l i x rest d e in (r .0, omega (arith, r .1))
+
 -- the texts of those that are left begin with the next one's
 pub each-next : {A : Type 0} (f : ℕ → A → Text) (l : List A) (i : ℕ) (x : A) (rest : List A) → drop i l ≡ x ∷ rest → eachFrom f i (drop i l) ≡ f i x ++ eachFrom f (i + 1) (drop (i + 1) l)
 each-next f l i x rest e = rw (add-one i) (ap (eachFrom f i) e ∙ ap (λ k. f i x ++ eachFrom f (suc i) k) (drop-rest l i x rest e))

@@ -38,9 +38,12 @@ same-ends false t m s q k l name =
     ∙ (rw (← k .lhs-is, ← k .rhs-is, l .lhs-is, l .rhs-is))
     ∙ sym (by-needle (isNegative (q .mode)) (q .source) (q .destination) name))
 
-same-items : (back : Bool) (gone : Text → Bool) (i : ℕ) (t : Text) (m : Matcher) (s q : Spec) → Matches t s m → Matches t q m → (names : List Text) → itemsFrom (itemBytes back gone i) 0 names s ≡ itemsFrom (itemBytes back gone i) 0 names q
+pub same-item : (back : Bool) (gone : Text → Bool) (i j : ℕ) (name t : Text) (m : Matcher) (s q : Spec) → Matches t s m → Matches t q m → itemBytes back gone i j name s ≡ itemBytes back gone i j name q
 unfolding itemBytes
-same-items back gone i t m s q k l names = eachFrom-same (λ j name. itemBytes back gone i j name s) (λ j name. itemBytes back gone i j name q) (λ j name. rw (same-ends back t m s q k l name)) 0 names
+same-item back gone i j name t m s q k l = rw (same-ends back t m s q k l name)
+
+same-items : (back : Bool) (gone : Text → Bool) (i : ℕ) (t : Text) (m : Matcher) (s q : Spec) → Matches t s m → Matches t q m → (names : List Text) → itemsFrom (itemBytes back gone i) 0 names s ≡ itemsFrom (itemBytes back gone i) 0 names q
+same-items back gone i t m s q k l names = eachFrom-same (λ j name. itemBytes back gone i j name s) (λ j name. itemBytes back gone i j name q) (λ j name. same-item back gone i j name t m s q k l) 0 names
 
 pub ready-is : (specs : Text) (r : RefSpec) (i : ℕ) (m : Matcher) → SpecReady specs r i → Matches specs (specMeant specs r) m → Ready specs m i
 unfolding specMeant

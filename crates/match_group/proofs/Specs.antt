@@ -15,7 +15,7 @@ use Rattle.text.proofs.Writing.{Writing, writing-starts, writing-room, writing-
 use Rattle.list.specs.Group.{groupMeant}
 use Rattle.match_group.specs.Listing.{eachFrom}
 use Rattle.match_group.specs.Loops.{Put, blank, SpecReady, TableReady}
-use Rattle.match_group.proofs.Loops.{Counted, counted-starts, counted-more, counted-whole, drop-member, each-next, each-none}
+use Rattle.match_group.proofs.Loops.{Counted, counted-starts, counted-more, counted-whole, drop-member, drop-here, each-next, each-none}
 
 map-member : {A B : Type 0} (f : A → B) (l : List A) (i : ℕ) (x : A) (rest : List A) → drop i l ≡ x ∷ rest → drop i (map f l) ≡ f x ∷ map f rest
 map-member f [] zero x rest e = absurd (let z : _≡_ {A = ℕ} 0 1 = cc in omega arith)
@@ -23,7 +23,7 @@ map-member f [] (suc i) x rest e = absurd (let z : _≡_ {A = ℕ} 0 1 = cc in o
 map-member f (y ∷ l) zero x rest e = ap (map f) e
 map-member f (y ∷ l) (suc i) x rest e = map-member f l i x rest e
 
-drop-all : {A : Type 0} (l : List A) (i : ℕ) → length l ≤ i → drop i l ≡ []
+pub drop-all : {A : Type 0} (l : List A) (i : ℕ) → length l ≤ i → drop i l ≡ []
 drop-all [] zero h = refl
 drop-all [] (suc i) h = refl
 drop-all (x ∷ l) zero h = absurd (omega arith)
@@ -71,8 +71,14 @@ module _ (specs : Text) (table : List RefSpec) (n : ℕ) where
         let e = drop-member l i blank (omega (arith, ready .long)) in
         (map (specMeant specs) (drop (suc i) l), map-member (specMeant specs) l i (getD l i blank) (drop (suc i) l) e ∙ ap (λ (r : RefSpec). specMeant specs r ∷ map (specMeant specs) (drop (suc i) l)) (take-getD table n i blank h))
 
+    pub spec-here : (i : ℕ) → i < n → (d : Spec) → getD group i d ≡ specMeant specs (getD table i blank)
+    spec-here i h d = let r = spec-next i h in drop-here group i (specMeant specs (getD table i blank)) (r .0) d (r .1) .0
+
+    pub group-long : length group ≡ n
+    group-long = map-long (specMeant specs) (take n table) ∙ ready .long
+
     -- after the last none is left
-    spec-none : (i : ℕ) → n ≤ i → drop i group ≡ []
+    pub spec-none : (i : ℕ) → n ≤ i → drop i group ≡ []
     spec-none i h = drop-all group i (omega (arith, map-long (specMeant specs) (take n table), ready .long))
 
     pub record-ready : (i : ℕ) → i < n → SpecReady specs (getD table i blank) i
@@ -92,24 +98,24 @@ module _ (specs : Text) (table : List RefSpec) (n : ℕ) where
         subst (SidesWithin (length specs)) (sym (take-getD table n i blank h) ∙ any-default l i blank d k ∙ take-getD table n i d h) (ready .each-ready i h .within)
 
     module _ (f : ℕ → Spec → Text) where
-      next-text : (i : ℕ) → i < n → eachFrom f i (drop i group) ≡ f i (specMeant specs (getD table i blank)) ++ eachFrom f (i + 1) (drop (i + 1) group)
-      next-text i h = let r = spec-next i h in each-next f group i (specMeant specs (getD table i blank)) (r .0) (r .1)
+      pub spec-text : (i : ℕ) → i < n → eachFrom f i (drop i group) ≡ f i (specMeant specs (getD table i blank)) ++ eachFrom f (i + 1) (drop (i + 1) group)
+      spec-text i h = let r = spec-next i h in each-next f group i (specMeant specs (getD table i blank)) (r .0) (r .1)
 
       module _ (b i size : ℕ) (c : SpecsCounted f b i size) where
         pub spec-counted : i < n → (k : ℕ) → k ≡ length (f i (specMeant specs (getD table i blank))) → k ≤ b → SpecsCounted f b (i + 1) (size + k)
         spec-counted h k e g =
-            counted-more (eachFrom f 0 group) size (eachFrom f i (drop i group)) i b c (f i (specMeant specs (getD table i blank))) (eachFrom f (i + 1) (drop (i + 1) group)) (next-text i h) k e g
+            counted-more (eachFrom f 0 group) size (eachFrom f i (drop i group)) i b c (f i (specMeant specs (getD table i blank))) (eachFrom f (i + 1) (drop (i + 1) group)) (spec-text i h) k e g
 
         pub all-specs-counted : n ≤ i → size ≡ length (eachFrom f 0 group)
         all-specs-counted h = counted-whole (eachFrom f 0 group) size (eachFrom f i (drop i group)) i b c (each-none f i (drop i group) (spec-none i h))
 
       module _ (d : Text) (at i : ℕ) (out : Text) (end : ℕ) (w : SpecsWritten f d at i out end) where
         pub spec-room : i < n → (t : Text) → t ≡ f i (specMeant specs (getD table i blank)) → end + length t ≤ length out
-        spec-room h t e = rw e (writing-room d at (eachFrom f 0 group) out end (eachFrom f i (drop i group)) w (f i (specMeant specs (getD table i blank))) (eachFrom f (i + 1) (drop (i + 1) group)) (next-text i h))
+        spec-room h t e = rw e (writing-room d at (eachFrom f 0 group) out end (eachFrom f i (drop i group)) w (f i (specMeant specs (getD table i blank))) (eachFrom f (i + 1) (drop (i + 1) group)) (spec-text i h))
 
         pub spec-written : i < n → (out₂ : Text) (end₂ : ℕ) → Put out end (f i (specMeant specs (getD table i blank))) out₂ end₂ → SpecsWritten f d at (i + 1) out₂ end₂
         spec-written h out₂ end₂ p =
-            writing-more d at (eachFrom f 0 group) out end (eachFrom f i (drop i group)) w (f i (specMeant specs (getD table i blank))) (eachFrom f (i + 1) (drop (i + 1) group)) (next-text i h) out₂ end₂ (p .puts) (p .ends)
+            writing-more d at (eachFrom f 0 group) out end (eachFrom f i (drop i group)) w (f i (specMeant specs (getD table i blank))) (eachFrom f (i + 1) (drop (i + 1) group)) (spec-text i h) out₂ end₂ (p .puts) (p .ends)
 
         pub all-specs-written : n ≤ i → Put d at (eachFrom f 0 group) out end
         all-specs-written h =

@@ -2,7 +2,7 @@
 ghost use mathlib.Core.Path.{_≡_};
 ghost use mathlib.Core.List.{[], _∷_};
 ghost use mathlib.Core.Option.{some};
-ghost use Prim.Native.Nat.{_≤_};
+ghost use Prim.Native.Nat.{_+_, _≤_};
 ghost use lib.ListN.{length, take};
 ghost use Rattle.meaning.specs.Spec.{accepted};
 ghost use Rattle.meaning.specs.Lists.{readItems};
@@ -11,35 +11,113 @@ ghost use Rattle.meaning.specs.Buffers.{MeetsOne};
 ghost use Rattle.text.specs.Splice.{splice};
 ghost use Rattle.list.specs.Group.{groupMeant};
 ghost use Rattle.exclude.specs.Negatives.{Negatives, excludedBy};
-ghost use Rattle.match_group.specs.Listing.{listingBytes, namesOf, rowsIn};
+ghost use Rattle.match_group.specs.Listing.{eachFrom, itemBytes, specBytes, listingBytes, namesOf, rowsIn};
 ghost use Rattle.match_group.specs.Loops.{Askable, Scratch, Put, Readable, TableReady};
+ghost use Rattle.match_group.specs.Hits.{PlacesOf, groupHits, NotedAll};
+use super::hits::Found;
+use super::hits::put_hits;
+use super::hits::specs_found;
 use super::listing::put_specs;
-use super::listing::specs_size;
 use super::object::objects_size;
 use super::object::put_objects;
+use super::places::put_places;
 use exclude::put_negatives;
 use parse::types::RefSpec;
 use write::written::Written;
 
-// How many bytes a listing takes.
-fn rows_size(
+// Measures a listing, and notes the hits of its specs.
+fn rows_found(
     back: bool,
     specs: &[u8],
     table: [RefSpec; 256],
     n: usize,
     items: &[u8],
+    places: &[usize],
+    names: usize,
     negatives: &[usize],
     count: usize,
     scratch: &mut [u8],
-) -> usize
-    requires { ⌜ TableReady (now specs) table n × Askable (now specs) (now negatives) count × Readable (now items) × Scratch (now scratch) ⌝ }
-    ensures { λ r. ⌜ (r ≡ length (listingBytes back (excludedBy (now (specs .entry)) (now (negatives .entry)) count) (groupMeant (now (specs .entry)) (take n table)) (namesOf (readItems (now (items .entry)))))) × (length (now (scratch .exit)) ≡ length (now (scratch .entry))) ⌝ }
+    hits: &mut [usize],
+) -> Found
+    requires { ⌜ TableReady (now specs) table n × PlacesOf (now items) (now places) names × Askable (now specs) (now negatives) count × Scratch (now scratch) × (length (now hits) ≤ 65536) ⌝ }
+    ensures { λ x. ⌜ (x .size ≡ length (listingBytes back (excludedBy (now (specs .entry)) (now (negatives .entry)) count) (groupMeant (now (specs .entry)) (take n table)) (namesOf (readItems (now (items .entry)))))) × (length (now (scratch .exit)) ≡ length (now (scratch .entry)))
+        × NotedAll (now (hits .exit)) (x .hits) (groupHits (itemBytes back (excludedBy (now (specs .entry)) (now (negatives .entry)) count)) (namesOf (readItems (now (items .entry)))) (groupMeant (now (specs .entry)) (take n table))) ⌝ }
 {
+    let found = specs_found(
+        back,
+        specs,
+        table,
+        n,
+        items,
+        places,
+        names,
+        negatives,
+        count,
+        scratch,
+        hits,
+    );
     if back {
-        return specs_size(back, specs, table, n, items, negatives, count, scratch);
+        return found;
     }
     let objects = objects_size(specs, table, n);
-    objects + specs_size(back, specs, table, n, items, negatives, count, scratch)
+    Found {
+        size: objects + found.size,
+        hits: found.hits,
+    }
+}
+
+// Writes the rows of all specs: those that were noted, or by another search where not all were.
+fn put_found(
+    out: &mut [u8],
+    at: usize,
+    back: bool,
+    specs: &[u8],
+    table: [RefSpec; 256],
+    n: usize,
+    items: &[u8],
+    places: &[usize],
+    names: usize,
+    negatives: &[usize],
+    count: usize,
+    scratch: &mut [u8],
+    hits: &[usize],
+    noted: usize,
+) -> usize
+    requires { ⌜ TableReady (now specs) table n × Readable (now items) × PlacesOf (now items) (now places) names × Askable (now specs) (now negatives) count × Scratch (now scratch)
+        × NotedAll (now hits) noted (groupHits (itemBytes back (excludedBy (now specs) (now negatives) count)) (namesOf (readItems (now items))) (groupMeant (now specs) (take n table)))
+        × (at + length (eachFrom (specBytes back (excludedBy (now specs) (now negatives) count) (namesOf (readItems (now items)))) 0 (groupMeant (now specs) (take n table))) ≤ length (now out)) ⌝ }
+    ensures { λ r. ⌜ Put (now (out .entry)) at (eachFrom (specBytes back (excludedBy (now (specs .entry)) (now (negatives .entry)) count) (namesOf (readItems (now (items .entry))))) 0 (groupMeant (now (specs .entry)) (take n table))) (now (out .exit)) r × (length (now (scratch .exit)) ≡ length (now (scratch .entry))) ⌝ }
+{
+    if hits.len() < noted {
+        return put_specs(
+            out,
+            at,
+            back,
+            specs,
+            table,
+            n,
+            items,
+            negatives,
+            count,
+            scratch,
+        );
+    }
+    put_hits(
+        out,
+        at,
+        back,
+        specs,
+        table,
+        n,
+        items,
+        places,
+        names,
+        negatives,
+        count,
+        scratch,
+        hits,
+        noted,
+    )
 }
 
 // Writes a listing at the start of the buffer.
@@ -50,15 +128,21 @@ fn put_rows(
     table: [RefSpec; 256],
     n: usize,
     items: &[u8],
+    places: &[usize],
+    names: usize,
     negatives: &[usize],
     count: usize,
     scratch: &mut [u8],
+    hits: &[usize],
+    noted: usize,
 )
-    requires { ⌜ TableReady (now specs) table n × Askable (now specs) (now negatives) count × Readable (now items) × Scratch (now scratch) × (length (listingBytes back (excludedBy (now specs) (now negatives) count) (groupMeant (now specs) (take n table)) (namesOf (readItems (now items)))) ≤ length (now out)) ⌝ }
+    requires { ⌜ TableReady (now specs) table n × Readable (now items) × PlacesOf (now items) (now places) names × Askable (now specs) (now negatives) count × Scratch (now scratch)
+        × NotedAll (now hits) noted (groupHits (itemBytes back (excludedBy (now specs) (now negatives) count)) (namesOf (readItems (now items))) (groupMeant (now specs) (take n table)))
+        × (length (listingBytes back (excludedBy (now specs) (now negatives) count) (groupMeant (now specs) (take n table)) (namesOf (readItems (now items)))) ≤ length (now out)) ⌝ }
     ensures { λ _. ⌜ now (out .exit) ≡ splice (now (out .entry)) 0 (listingBytes back (excludedBy (now (specs .entry)) (now (negatives .entry)) count) (groupMeant (now (specs .entry)) (take n table)) (namesOf (readItems (now (items .entry))))) ⌝ }
 {
     if back {
-        put_specs(
+        put_found(
             out,
             0,
             back,
@@ -66,14 +150,18 @@ fn put_rows(
             table,
             n,
             items,
+            places,
+            names,
             negatives,
             count,
             scratch,
+            hits,
+            noted,
         );
         return;
     }
     let at = put_objects(out, 0, specs, table, n);
-    put_specs(
+    put_found(
         out,
         at,
         back,
@@ -81,9 +169,13 @@ fn put_rows(
         table,
         n,
         items,
+        places,
+        names,
         negatives,
         count,
         scratch,
+        hits,
+        noted,
     );
 }
 
@@ -94,15 +186,31 @@ fn list_rows(
     table: [RefSpec; 256],
     n: usize,
     items: &[u8],
+    places: &[usize],
+    names: usize,
     negatives: &[usize],
     count: usize,
     scratch: &mut [u8],
     out: &mut [u8],
 ) -> Written
-    requires { ⌜ TableReady (now specs) table n × Negatives (now specs) (groupMeant (now specs) (take n table)) (now negatives) count × Readable (now items) × Scratch (now scratch) ⌝ }
+    requires { ⌜ TableReady (now specs) table n × Negatives (now specs) (groupMeant (now specs) (take n table)) (now negatives) count × Readable (now items) × PlacesOf (now items) (now places) names × Scratch (now scratch) ⌝ }
     ensures { λ w. ⌜ MeetsOne (accepted (some (rowListOf (rowsIn back (groupMeant (now (specs .entry)) (take n table)) (namesOf (readItems (now (items .entry)))))) ∷ [])) (now (out .entry)) (now (out .exit)) (w .refusal) (w .record) (w .length) ⌝ }
 {
-    let size = rows_size(back, specs, table, n, items, negatives, count, scratch);
+    let mut hits = [0; 1024];
+    let found = rows_found(
+        back,
+        specs,
+        table,
+        n,
+        items,
+        places,
+        names,
+        negatives,
+        count,
+        scratch,
+        &mut hits,
+    );
+    let size = found.size;
     if out.len() < size {
         return Written {
             refusal: 17,
@@ -110,7 +218,22 @@ fn list_rows(
             length: size as u64,
         };
     }
-    put_rows(out, back, specs, table, n, items, negatives, count, scratch);
+    let noted = found.hits;
+    put_rows(
+        out,
+        back,
+        specs,
+        table,
+        n,
+        items,
+        places,
+        names,
+        negatives,
+        count,
+        scratch,
+        &hits,
+        noted,
+    );
     Written {
         refusal: 0,
         record: 0,
@@ -132,6 +255,8 @@ pub(crate) fn list_group(
 {
     let mut negatives = [0; 1024];
     let count = put_negatives(specs, table, n, &mut negatives);
+    let mut places = [0; 2048];
+    let names = put_places(items, &mut places);
     let mut scratch = [0; 8192];
     list_rows(
         back,
@@ -139,6 +264,8 @@ pub(crate) fn list_group(
         table,
         n,
         items,
+        &places,
+        names,
         &negatives,
         count,
         &mut scratch,

@@ -178,7 +178,7 @@ fn matched_size(
 }
 
 // Writes what item j gives under spec i, which may match it, and answers the place after it.
-fn put_matched(
+pub(crate) fn put_matched(
     out: &mut [u8],
     at: usize,
     back: bool,

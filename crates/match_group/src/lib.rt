@@ -6,9 +6,11 @@ ghost use Rattle.meaning.specs.Entries.{matchLhs, matchRhs};
 ghost use Rattle.match_group.specs.Listing.{listed};
 
 mod group;
+mod hits;
 mod item;
 mod listing;
 mod object;
+mod places;
 mod row;
 
 use group::list_group;

@@ -1,18 +1,15 @@
-// The loops of a listing: over the specs of a group, and for each over the items. Port of `match_lhs` and `match_rhs` in the crate's
-// match_group/mod.rs. Each is there twice: once to measure, once to write.
+// The rows of the specs, searched for and written at once, for listings of which not all hits were noted.
 ghost use mathlib.Core.Path.{_≡_};
 ghost use mathlib.Core.List.{[]};
 ghost use Prim.Native.Nat.{_+_, _≤_, _<_};
 ghost use lib.ListN.{length, take};
-ghost use Rattle.meaning.specs.Limits.{listBytes, specCount};
 ghost use Rattle.meaning.specs.Lists.{readItems};
 ghost use Rattle.parse.specs.Places.{specMeant};
 ghost use Rattle.exclude.specs.Negatives.{excludedBy};
 ghost use Rattle.list.specs.Group.{groupMeant};
 ghost use Rattle.match_group.specs.Listing.{eachFrom, itemsFrom, itemBytes, specBytes, namesOf};
-ghost use Rattle.match_group.specs.Loops.{Askable, Scratch, Ready, Stops, Measures, Room, Put, Puts, Readable, SpecReady, TableReady};
+ghost use Rattle.match_group.specs.Loops.{Askable, Scratch, Ready, Stops, Room, Put, Puts, Readable, SpecReady, TableReady};
 use super::item::filter_of;
-use super::item::item_size;
 use super::item::put_item;
 use list::cursor::Cursor;
 use list::cursor::Step;
@@ -21,53 +18,6 @@ use matcher::matcher;
 use matcher::types::Matcher;
 use parse::types::RefSpec;
 use parse::types::is_negative;
-
-// How many bytes the items take under spec i.
-fn items_size(
-    back: bool,
-    specs: &[u8],
-    m: Matcher,
-    f: Filter,
-    i: usize,
-    items: &[u8],
-    negatives: &[usize],
-    count: usize,
-    scratch: &mut [u8],
-) -> usize
-    requires { ⌜ Ready (now specs) m i × Stops back (now specs) m f × Askable (now specs) (now negatives) count × Readable (now items) × Scratch (now scratch) ⌝ }
-    ensures { λ r. ⌜ Measures (now (specs .entry)) m (itemsFrom (itemBytes back (excludedBy (now (specs .entry)) (now (negatives .entry)) count) i) 0 (namesOf (readItems (now (items .entry))))) r × (r ≤ 512000000) × (length (now (scratch .exit)) ≡ length (now (scratch .entry))) ⌝ }
-{
-    let mut size = 0;
-    let mut j = 0;
-    let mut c = Cursor::new();
-    loop {
-        match c.next(items) {
-            Step::Record { start, len, next } => {
-                let end = start + len;
-                size += item_size(
-                    back,
-                    specs,
-                    m,
-                    f,
-                    i,
-                    j,
-                    &items[start..end],
-                    negatives,
-                    count,
-                    scratch,
-                );
-                c = next;
-                j += 1;
-            }
-            Step::End => {
-                return size;
-            }
-            Step::Refused(_) => {
-                return size;
-            }
-        }
-    }
-}
 
 // Writes what the items give under spec i, and answers the place after it.
 fn put_items(
@@ -120,29 +70,6 @@ fn put_items(
     }
 }
 
-// How many bytes the rows of spec i take; a negative spec has none.
-fn spec_size(
-    back: bool,
-    specs: &[u8],
-    r: RefSpec,
-    i: usize,
-    items: &[u8],
-    negatives: &[usize],
-    count: usize,
-    scratch: &mut [u8],
-) -> usize
-    requires { ⌜ SpecReady (now specs) r i × Askable (now specs) (now negatives) count × Readable (now items) × Scratch (now scratch) ⌝ }
-    ensures { λ n. ⌜ (n ≡ length (specBytes back (excludedBy (now (specs .entry)) (now (negatives .entry)) count) (namesOf (readItems (now (items .entry)))) i (specMeant (now (specs .entry)) r))) × (n ≤ 512000000) × (length (now (scratch .exit)) ≡ length (now (scratch .entry))) ⌝ }
-{
-    let mode = r.mode;
-    if is_negative(mode) {
-        return 0;
-    }
-    let m = matcher(specs, r);
-    let f = filter_of(back, specs, m);
-    items_size(back, specs, m, f, i, items, negatives, count, scratch)
-}
-
 // Writes the rows of spec i, and answers the place after them.
 fn put_spec(
     out: &mut [u8],
@@ -178,30 +105,6 @@ fn put_spec(
         count,
         scratch,
     )
-}
-
-// How many bytes the rows of all specs take.
-pub(crate) fn specs_size(
-    back: bool,
-    specs: &[u8],
-    table: [RefSpec; 256],
-    n: usize,
-    items: &[u8],
-    negatives: &[usize],
-    count: usize,
-    scratch: &mut [u8],
-) -> usize
-    requires { ⌜ TableReady (now specs) table n × Askable (now specs) (now negatives) count × Readable (now items) × Scratch (now scratch) ⌝ }
-    ensures { λ r. ⌜ (r ≡ length (eachFrom (specBytes back (excludedBy (now (specs .entry)) (now (negatives .entry)) count) (namesOf (readItems (now (items .entry))))) 0 (groupMeant (now (specs .entry)) (take n table)))) × (r ≤ 131072000000) × (length (now (scratch .exit)) ≡ length (now (scratch .entry))) ⌝ }
-{
-    let mut size = 0;
-    let mut i = 0;
-    while i < n {
-        let r = table[i];
-        size += spec_size(back, specs, r, i, items, negatives, count, scratch);
-        i += 1;
-    }
-    size
 }
 
 // Writes the rows of all specs, and answers the place after them.

@@ -1,10 +1,8 @@
--- The negatives are put into a table, which is lent. Assumes nothing.
+-- The negatives of the table are noted, and where the names stand, and what is lent has room.
 use Rattle.match_group.proofs.Specs.{any-sides}
 use borrow.Author.Needs.{needs}
 use Rattle.match_group.proofs.group.list_group.Statement.{statement}
 use Rattle.match_group.proofs.group.list_group.Tie as tie
-use Rattle.exclude.proofs.put_negatives.Reads as put-negatives-reads
-use Rattle.match_group.proofs.group.list_rows.Reads as list-rows-reads
 
 slice-aggregate-put-negatives : tie.Need-slice-aggregate-put-negatives
 slice-aggregate-put-negatives c = search needs
@@ -12,11 +10,20 @@ slice-aggregate-put-negatives c = search needs
 put-negatives-requires : tie.Need-put-negatives-requires
 put-negatives-requires c κs = (search needs, search needs, search any-sides)
 
+slice-aggregate-put-places : tie.Need-slice-aggregate-put-places
+slice-aggregate-put-places c = search needs
+
+put-places-requires : tie.Need-put-places-requires
+put-places-requires c κs = search needs
+
 slice-aggregate-list-rows : tie.Need-slice-aggregate-list-rows
 slice-aggregate-list-rows c = search needs
 
 slice-aggregate-list-rows-2 : tie.Need-slice-aggregate-list-rows-2
 slice-aggregate-list-rows-2 c = search needs
+
+slice-aggregate-list-rows-3 : tie.Need-slice-aggregate-list-rows-3
+slice-aggregate-list-rows-3 c = search needs
 
 list-rows-requires : tie.Need-list-rows-requires
 list-rows-requires c κs = search needs
@@ -33,8 +40,11 @@ list-group-spec =
     (tie.spec
     slice-aggregate-put-negatives
     put-negatives-requires
+    slice-aggregate-put-places
+    put-places-requires
     slice-aggregate-list-rows
     slice-aggregate-list-rows-2
+    slice-aggregate-list-rows-3
     list-rows-requires
     same-length
     returns)
