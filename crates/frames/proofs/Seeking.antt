@@ -4,16 +4,18 @@ use mathlib.Core.Bool.{Bool, true, false, not}
 use mathlib.Core.List.{[], _∷_, _++_}
 use Prim.Native.Nat.{ℕ, _+_, _-_, _<_, _≤_}
 use native.Mathlib.Omega.{arith}
-use borrow.Author.Tests.{not-true, not-false}
+use borrow.Author.Tests.{eq-eqb, ne-eqb, eqb-true, eqb-false, not-true, not-false}
+use mir.Val.{Fits}
+use mir.Syntax.{w64}
 use lib.Dec.{eqb}
 use lib.ListN.{length, take, drop, length-append}
 use Rattle.meaning.specs.Bytes.{Text, bytes, _and_, _or_, any, same, begins}
 use Rattle.meaning.specs.Prefix.{candidates}
 use Rattle.promises.proofs.Captures.{begins-is}
 use Rattle.text.proofs.Rests.{rest-part}
-use Rattle.text.proofs.Sames.{eqb-swap}
+use Rattle.text.proofs.Sames.{eqb-swap, same-other-length}
 use Rattle.frames.specs.Frames.{Framing, candidate, frameAt}
-use Rattle.frames.proofs.Candidates.{candidate-framed, candidates-next}
+use Rattle.frames.proofs.Candidates.{candidate-framed, candidates-next, framing-size, leading-within, trailing-within}
 
 -- a text that begins with p has as many bytes at least
 begins-long : (p s : Text) → begins p s ≡ true → length p ≤ length s
@@ -101,3 +103,23 @@ module _ (t name : Text) (k : ℕ) (s : Seeking t name k) where
   -- none is
   pub seeking-none : 6 ≤ k → false ≡ any (same name) (candidates t)
   seeking-none h = let z : k ≡ 6 = omega (arith, s .count) in rw z at (s .left)
+
+-- how many bytes a frame and a name have together
+module _ (size frame name : ℕ) where
+  pub size-short : size < frame → false ≡ eqb size (frame + name)
+  size-short h = sym (ne-eqb size (frame + name) (λ e. omega arith))
+
+  pub size-left : frame ≤ size → eqb (size - frame) name ≡ eqb size (frame + name)
+  size-left h = go (eqb (size - frame) name) refl
+    where
+      go : (b : Bool) → eqb (size - frame) name ≡ b → b ≡ eqb size (frame + name)
+      go true e = sym (eq-eqb size (frame + name) (omega (arith, eqb-true (size - frame) name e)))
+      go false e = sym (ne-eqb size (frame + name) (λ q. eqb-false (size - frame) name e (omega arith)))
+
+-- a name of another size is no candidate
+pub size-not : (t name : Text) (k : ℕ) → k < 6 → (leading : Text) (n trailing : ℕ) → Framing (frameAt k) leading n trailing → (r : Bool) → r ≡ eqb (length name) (n + trailing + length t) → not r ≡ true → false ≡ same name (candidate k t)
+size-not t name k h leading n trailing f r e z =
+    sym (same-other-length name (candidate k t) (λ q. eqb-false (length name) (n + trailing + length t) (sym e ∙ not-true r z) (omega (arith, q, framing-size t k h leading n trailing f))))
+
+pub frame-fits : (k : ℕ) → k < 6 → (leading : Text) (n trailing : ℕ) → Framing (frameAt k) leading n trailing → Fits w64 (n + trailing)
+frame-fits k h leading n trailing f = omega (arith, leading-within k h leading n trailing f, trailing-within k h leading n trailing f)

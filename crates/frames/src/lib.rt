@@ -1,6 +1,7 @@
 // The six frames of a partial name, and the candidates that they make. Port of `expand_partial_name` in the crate's spec.rs.
 ghost use mathlib.Core.Path.{_≡_};
 ghost use Prim.Native.Nat.{_+_, _<_, _≤_};
+ghost use lib.Dec.{eqb};
 ghost use lib.ListN.{length};
 ghost use Rattle.meaning.specs.Bytes.{any, same};
 ghost use Rattle.meaning.specs.Limits.{listBytes};
@@ -107,8 +108,18 @@ pub fn put_candidates(out: &mut [u8], at: usize, name: &[u8]) -> usize
     i
 }
 
-// A name is candidate number k of a partial name t.
-pub fn is_candidate(k: usize, t: &[u8], name: &[u8]) -> bool
+// So many bytes are as many as a frame and a name have together.
+fn has_size(size: usize, frame: usize, name: usize) -> bool
+    ensures { λ r. ⌜ r ≡ eqb size (frame + name) ⌝ }
+{
+    if size < frame {
+        return false;
+    }
+    size - frame == name
+}
+
+// A name is candidate number k of a partial name t, piece by piece.
+fn has_pieces(k: usize, t: &[u8], name: &[u8]) -> bool
     requires { ⌜ k < 6 ⌝ }
     ensures { λ r. ⌜ r ≡ same (now (name .entry)) (candidate k (now (t .entry))) ⌝ }
 {
@@ -125,6 +136,18 @@ pub fn is_candidate(k: usize, t: &[u8], name: &[u8]) -> bool
     let trailing = HEAD;
     let m = f.2;
     text::same(&rest[t.len()..], &trailing[..m])
+}
+
+// A name is candidate number k of a partial name t. Most names differ in size.
+pub fn is_candidate(k: usize, t: &[u8], name: &[u8]) -> bool
+    requires { ⌜ k < 6 ⌝ }
+    ensures { λ r. ⌜ r ≡ same (now (name .entry)) (candidate k (now (t .entry))) ⌝ }
+{
+    let f = frame_of(k);
+    if !has_size(name.len(), f.1 + f.2, t.len()) {
+        return false;
+    }
+    has_pieces(k, t, name)
 }
 
 // A name is a candidate of a partial name t.

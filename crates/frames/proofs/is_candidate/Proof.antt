@@ -1,7 +1,5 @@
--- `frames::is_candidate` meets its contract: a candidate is a leading text, the name and what trails.
-use Rattle.frames.proofs.Candidates.{leading-there, leading-taken, trailing-within, trailing-taken}
-use Rattle.frames.proofs.Seeking.{leads-not, leads-long, names-not, told-long, candidate-told}
-use borrow.Author.Needs.{needs}
+-- `frames::is_candidate` meets its contract: a name of another size is no candidate, and any other is taken apart.
+use Rattle.frames.proofs.Seeking.{frame-fits, size-not}
 use borrow.Author.Needs.{needs}
 use Rattle.frames.proofs.is_candidate.Statement.{statement}
 use Rattle.frames.proofs.is_candidate.Tie as tie
@@ -9,72 +7,28 @@ use Rattle.frames.proofs.is_candidate.Tie as tie
 frame-of-requires : tie.Need-frame-of-requires
 frame-of-requires c κs = search needs
 
-array-share-prefix-leading : tie.Need-array-share-prefix-leading
-array-share-prefix-leading c = search leading-there
+add-has-size : tie.Need-add-has-size
+add-has-size c = search frame-fits
 
-slice-aggregate-begins : tie.Need-slice-aggregate-begins
-slice-aggregate-begins c = search leading-taken
-
-begins-requires : tie.Need-begins-requires
-begins-requires c κs = search needs
+has-size-requires : tie.Need-has-size-requires
+has-size-requires c κs = search needs
 
 returns : tie.Need-returns
-returns c = search leads-not
+returns c = search size-not
 
-sub-rest : tie.Need-sub-rest
-sub-rest c = search leads-long
-
-part-rest-start : tie.Need-part-rest-start
-part-rest-start c = search leads-long
-
-part-rest-end : tie.Need-part-rest-end
-part-rest-end c = search needs
-
-begins-requires-2 : tie.Need-begins-requires-2
-begins-requires-2 c κs = search needs
+has-pieces-requires : tie.Need-has-pieces-requires
+has-pieces-requires c κs = search needs
 
 returns-2 : tie.Need-returns-2
-returns-2 c = search names-not
-
-sub-same : tie.Need-sub-same
-sub-same c = search told-long
-
-part-same-start : tie.Need-part-same-start
-part-same-start c = search told-long
-
-part-same-end : tie.Need-part-same-end
-part-same-end c = search needs
-
-array-share-prefix-trailing : tie.Need-array-share-prefix-trailing
-array-share-prefix-trailing c = search trailing-within
-
-slice-aggregate-same : tie.Need-slice-aggregate-same
-slice-aggregate-same c = search trailing-taken
-
-same-requires : tie.Need-same-requires
-same-requires c κs = search needs
-
-returns-3 : tie.Need-returns-3
-returns-3 c = search candidate-told
+returns-2 c = search needs
 
 pub is-candidate-spec : {M : Type 1} → statement M
 is-candidate-spec =
     tie.close
     (tie.spec
     frame-of-requires
-    array-share-prefix-leading
-    slice-aggregate-begins
-    begins-requires
+    add-has-size
+    has-size-requires
     returns
-    sub-rest
-    part-rest-start
-    part-rest-end
-    begins-requires-2
-    returns-2
-    sub-same
-    part-same-start
-    part-same-end
-    array-share-prefix-trailing
-    slice-aggregate-same
-    same-requires
-    returns-3)
+    has-pieces-requires
+    returns-2)
