@@ -1,11 +1,10 @@
 -- Texts at places of a row list. Assumes nothing.
-use mathlib.Core.Path.{_≡_, ap, ap₂, _∙_}
-use mathlib.Core.Bool.{Bool}
+use mathlib.Core.Path.{_≡_, ap}
 use Prim.Native.Nat.{ℕ, _+_, _-_, _≤_}
 use native.Mathlib.Omega.{arith}
 use lib.ListN.{length, take, drop, length-drop}
 use lib.Seq.{length-take-le}
-use Rattle.meaning.specs.Bytes.{Text, same, earlier}
+use Rattle.meaning.specs.Bytes.{Text}
 use Rattle.parse.specs.Places.{partAt}
 
 -- the bytes from a place to its end
@@ -15,10 +14,3 @@ part-is s a n = let h : a + n - a ≡ n = omega arith in ap (λ k. take k (drop 
 -- a text within its list has as many bytes as it says
 pub part-long : (s : Text) (a n : ℕ) → a + n ≤ length s → length (partAt s a n) ≡ n
 part-long s a n h = length-take-le n (drop a s) (rw (length-drop a s) (omega arith))
-
-module _ (s : Text) (a n b m : ℕ) (r : Bool) where
-  pub parts-earlier : r ≡ earlier (take (a + n - a) (drop a s)) (take (b + m - b) (drop b s)) → r ≡ earlier (partAt s a n) (partAt s b m)
-  parts-earlier e = e ∙ ap₂ earlier (part-is s a n) (part-is s b m)
-
-  pub parts-same : r ≡ same (take (a + n - a) (drop a s)) (take (b + m - b) (drop b s)) → r ≡ same (partAt s a n) (partAt s b m)
-  parts-same e = e ∙ ap₂ same (part-is s a n) (part-is s b m)

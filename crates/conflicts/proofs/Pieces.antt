@@ -1,31 +1,23 @@
 -- A text and the source of a row, measured and written piece by piece. Assumes nothing.
 use mathlib.Core.Path.{_≡_, refl, sym, _∙_}
-use mathlib.Core.Bool.{Bool, true, false, not}
-use mathlib.Core.List.{List, [], _++_, append-nil}
+use mathlib.Core.List.{[], _++_, append-nil}
 use Prim.Native.Nat.{ℕ, _+_, _-_, _≤_}
-use native.Mathlib.Nat.{add-zero}
-use native.Mathlib.Numerals.{add-one}
 use native.Mathlib.Omega.{arith}
 use mir.Val.{Fits}
 use mir.Syntax.{w64}
-use borrow.Author.Tests.{not-true, not-false}
 use lib.ListN.{length, take, drop, length-append}
 use Rattle.meaning.specs.Bytes.{Text}
 use Rattle.meaning.specs.Number.{numberBytes, textBytes}
-use Rattle.meaning.specs.Rows as meaning
 use Rattle.meaning.specs.Validation.{sourceBytes}
 use Rattle.text.specs.Splice.{splice}
-use Rattle.text.proofs.Splices.{splice-none}
 use Rattle.text.proofs.Writing.{Writing, writing-starts, writing-room, writing-more, written-place, written-whole}
 use Rattle.number.specs.Reading.{largestNumber}
 use Rattle.number.proofs.Bytes.{bytes-few}
 use Rattle.number.proofs.Texts.{text-size, number-room, text-room, text-put, text-ends}
 use Rattle.parse.specs.Places.{partAt}
-use Rattle.list.specs.declared.rows.RowPlace.{RowPlace}
-use Rattle.list.specs.Rows.{rowMeant}
-use Rattle.conflicts.specs.declared.sources.Tally.{Tally}
-use Rattle.conflicts.specs.Listed.{RowWithin}
-use Rattle.conflicts.specs.FirstSeen.{isFirst, rowSourceBytes, firstBytes, Tallied}
+use Rattle.order.specs.declared.fields.RowFields.{RowFields}
+use Rattle.order.specs.Keys.{rowAt, Finds}
+use Rattle.conflicts.specs.Indexed.{sourceAt}
 use Rattle.conflicts.proofs.Parts.{part-is, part-long}
 
 -- a text at a place of a row list
@@ -65,96 +57,61 @@ module _ (x k y l : ℕ) (ex : x ≡ length (numberBytes k)) (ey : y ≡ length 
   pub three-fit : (z m : ℕ) → z ≡ length (numberBytes m) → Fits w64 (x + y + z)
   three-fit z m ez = omega (arith, few x k ex, few y l ey, few z m ez)
 
--- the source of a row
-source-pieces : (s : Text) (row : RowPlace) → rowSourceBytes (rowMeant s row) ≡ numberBytes (row .spec) ++ (numberBytes (row .kind) ++ textBytes (partAt s (row .«src_at») (row .«src_len»)))
-unfolding sourceBytes rowMeant
-source-pieces s row = refl
+-- the source of the row at a place, by its fields
+module _ (s : Text) (p : ℕ) (f : RowFields) (w : Finds s (rowAt s p) f) where
+  source-pieces : sourceAt s p ≡ numberBytes (f .spec) ++ (numberBytes (f .kind) ++ textBytes (partAt s (f .«src_at») (f .«src_len»)))
+  unfolding sourceAt sourceBytes
+  source-pieces = rw (w .spec-is, w .kind-is, w .source-is)
 
-module _ (s : Text) (row : RowPlace) (w : RowWithin (length s) row) where
-  pub source-text-small : length s ≤ 1048576 → row .«src_len» ≤ largestNumber
+  pub source-text-small : length s ≤ 1048576 → f .«src_len» ≤ largestNumber
   source-text-small short = omega (arith, w .source-within)
 
-  pub source-kind-small : row .kind ≤ largestNumber
-  source-kind-small = omega (arith, w .kind-small)
+  module _ (short : length s ≤ 1048576) (x y z : ℕ) (ex : x ≡ length (numberBytes (f .spec))) (ey : y ≡ length (numberBytes (f .kind))) (ez : z ≡ length (numberBytes (f .«src_len»))) where
+    pub source-fits : Fits w64 (x + y + z + f .«src_len»)
+    source-fits = omega (arith, few x (f .spec) ex, few y (f .kind) ey, few z (f .«src_len») ez, w .source-within)
 
-  module _ (short : length s ≤ 1048576) (x y z : ℕ) (ex : x ≡ length (numberBytes (row .spec))) (ey : y ≡ length (numberBytes (row .kind))) (ez : z ≡ length (numberBytes (row .«src_len»))) where
-    pub source-fits : Fits w64 (x + y + z + row .«src_len»)
-    source-fits = omega (arith, few x (row .spec) ex, few y (row .kind) ey, few z (row .«src_len») ez, w .source-within)
+    pub source-small : x + y + z + f .«src_len» ≤ 1048585
+    source-small = omega (arith, few x (f .spec) ex, few y (f .kind) ey, few z (f .«src_len») ez, w .source-within)
 
-    pub source-small : x + y + z + row .«src_len» ≤ 1048585
-    source-small = omega (arith, few x (row .spec) ex, few y (row .kind) ey, few z (row .«src_len») ez, w .source-within)
-
-    pub source-size : x + y + z + row .«src_len» ≡ length (rowSourceBytes (rowMeant s row))
+    pub source-size : x + y + z + f .«src_len» ≡ length (sourceAt s p)
     source-size =
-        let t = text-long s (row .«src_at») (row .«src_len») (w .source-within) z ez in
-        let u = textBytes (partAt s (row .«src_at») (row .«src_len»)) in
-        rw (source-pieces s row, length-append (numberBytes (row .spec)) (numberBytes (row .kind) ++ u), length-append (numberBytes (row .kind)) u) (omega arith)
+        let t = text-long s (f .«src_at») (f .«src_len») (w .source-within) z ez in
+        let u = textBytes (partAt s (f .«src_at») (f .«src_len»)) in
+        rw (source-pieces, length-append (numberBytes (f .spec)) (numberBytes (f .kind) ++ u), length-append (numberBytes (f .kind)) u) (omega arith)
 
-  module _ (d : Text) (at : ℕ) (fits : at + length (rowSourceBytes (rowMeant s row)) ≤ length d) where
+  module _ (d : Text) (at : ℕ) (fits : at + length (sourceAt s p) ≤ length d) where
     abbrev whole : Text
-    whole = rowSourceBytes (rowMeant s row)
+    whole = sourceAt s p
 
     abbrev text : Text
-    text = textBytes (partAt s (row .«src_at») (row .«src_len»))
+    text = textBytes (partAt s (f .«src_at») (f .«src_len»))
 
     start : Writing d at whole d at whole
     start = writing-starts d at whole fits
 
-    pub spec-room : at + length (numberBytes (row .spec)) ≤ length d
-    spec-room = writing-room d at whole d at whole start (numberBytes (row .spec)) (numberBytes (row .kind) ++ text) (source-pieces s row)
+    pub spec-room : at + length (numberBytes (f .spec)) ≤ length d
+    spec-room = writing-room d at whole d at whole start (numberBytes (f .spec)) (numberBytes (f .kind) ++ text) source-pieces
 
-    module _ (d₁ : Text) (i : ℕ) (p₁ : d₁ ≡ splice d at (numberBytes (row .spec))) (e₁ : i ≡ at + length (numberBytes (row .spec))) where
-      spec-put : Writing d at whole d₁ i (numberBytes (row .kind) ++ text)
-      spec-put = writing-more d at whole d at whole start (numberBytes (row .spec)) (numberBytes (row .kind) ++ text) (source-pieces s row) d₁ i p₁ e₁
+    module _ (d₁ : Text) (i : ℕ) (p₁ : d₁ ≡ splice d at (numberBytes (f .spec))) (e₁ : i ≡ at + length (numberBytes (f .spec))) where
+      spec-put : Writing d at whole d₁ i (numberBytes (f .kind) ++ text)
+      spec-put = writing-more d at whole d at whole start (numberBytes (f .spec)) (numberBytes (f .kind) ++ text) source-pieces d₁ i p₁ e₁
 
-      pub kind-room : i + length (numberBytes (row .kind)) ≤ length d₁
-      kind-room = writing-room d at whole d₁ i (numberBytes (row .kind) ++ text) spec-put (numberBytes (row .kind)) text refl
+      pub kind-room : i + length (numberBytes (f .kind)) ≤ length d₁
+      kind-room = writing-room d at whole d₁ i (numberBytes (f .kind) ++ text) spec-put (numberBytes (f .kind)) text refl
 
-      module _ (d₂ : Text) (j : ℕ) (p₂ : d₂ ≡ splice d₁ i (numberBytes (row .kind))) (e₂ : j ≡ i + length (numberBytes (row .kind))) where
+      module _ (d₂ : Text) (j : ℕ) (p₂ : d₂ ≡ splice d₁ i (numberBytes (f .kind))) (e₂ : j ≡ i + length (numberBytes (f .kind))) where
         kind-put : Writing d at whole d₂ j text
-        kind-put = writing-more d at whole d₁ i (numberBytes (row .kind) ++ text) spec-put (numberBytes (row .kind)) text refl d₂ j p₂ e₂
+        kind-put = writing-more d at whole d₁ i (numberBytes (f .kind) ++ text) spec-put (numberBytes (f .kind)) text refl d₂ j p₂ e₂
 
-        pub source-room : j + length text ≤ length d₂
+        pub source-room : j + length (textBytes (partAt s (f .«src_at») (f .«src_len»))) ≤ length d₂
         source-room = writing-room d at whole d₂ j text kind-put text [] (sym (append-nil text))
 
-        module _ (d₃ : Text) (k : ℕ) (p₃ : d₃ ≡ splice d₂ j text) (e₃ : k ≡ j + length text) where
+        module _ (d₃ : Text) (k : ℕ) (p₃ : d₃ ≡ splice d₂ j (textBytes (partAt s (f .«src_at») (f .«src_len»)))) (e₃ : k ≡ j + length (textBytes (partAt s (f .«src_at») (f .«src_len»)))) where
           all-put : Writing d at whole d₃ k []
           all-put = writing-more d at whole d₂ j text kind-put text [] (sym (append-nil text)) d₃ k p₃ e₃
 
-          pub source-written : d₃ ≡ splice d at whole
+          pub source-written : d₃ ≡ splice d at (sourceAt s p)
           source-written = written-whole d at whole d₃ k [] all-put refl
 
-          pub source-after : k ≡ at + length whole
+          pub source-after : k ≡ at + length (sourceAt s p)
           source-after = written-place d at whole d₃ k [] all-put refl
-
--- the source of a row that is the first, or nothing
-module _ (d : Text) (before : List meaning.Row) (x : meaning.Row) (r : Bool) (e : r ≡ isFirst d before x) where
-  none-is : not r ≡ true → firstBytes d before x ≡ []
-  none-is f = rw (sym e ∙ not-true r f)
-
-  first-is : not r ≡ false → firstBytes d before x ≡ rowSourceBytes x
-  first-is f = rw (sym e ∙ not-false r f)
-
-  pub tallied-none : not r ≡ true → (old : Tally) → Tallied d before x old old
-  tallied-none f old =
-      record { counted = rw (sym e ∙ not-true r f); measured = rw (none-is f) (sym (add-zero (old .size))); small = omega arith }
-
-  pub tallied-first : not r ≡ false → (old : Tally) (n : ℕ) → n ≡ length (rowSourceBytes x) → n ≤ 1048585 → Tallied d before x old (record { count = old .count + 1; size = old .size + n })
-  tallied-first f old n h b =
-      record { counted = rw (sym e ∙ not-false r f, add-one (old .count)); measured = rw (first-is f, ← h); small = omega arith }
-
-  module _ (o : Text) (end : ℕ) where
-    pub none-put : not r ≡ true → o ≡ splice o end (firstBytes d before x)
-    none-put f = rw (none-is f) (sym (splice-none o end))
-
-    pub none-after : not r ≡ true → end ≡ end + length (firstBytes d before x)
-    none-after f = rw (none-is f) (sym (add-zero end))
-
-    pub first-room : not r ≡ false → end + length (firstBytes d before x) ≤ length o → end + length (rowSourceBytes x) ≤ length o
-    first-room f h = rw (first-is f) at h
-
-    pub first-put : not r ≡ false → (q : Text) → q ≡ splice o end (rowSourceBytes x) → q ≡ splice o end (firstBytes d before x)
-    first-put f q h = rw (first-is f) h
-
-    pub first-after : not r ≡ false → (k : ℕ) → k ≡ end + length (rowSourceBytes x) → k ≡ end + length (firstBytes d before x)
-    first-after f k h = rw (first-is f) h

@@ -25,7 +25,7 @@ use Rattle.list.specs.declared.rows.RowStep.the-variants.{Row, End, Refused}
 use Rattle.list.specs.Rows.{rowMeant, rowPlace, placedRow, destinationPlace, rowStepAt, RowTaken, RowSays}
 use Rattle.list.proofs.Records.{accepted-within}
 use Rattle.list.proofs.RowWalks.{RowsLeft, rows-left, rows-next, rows-end, rows-refused}
-use Rattle.conflicts.specs.Listed.{rowsIn, RowsRead, InList, RowWithin}
+use Rattle.conflicts.specs.Listed.{rowsIn, RowsRead, InList}
 
 -- where the cursor stands: j rows are behind it
 pub record At (specs : ℕ) (s : Text) (at j : ℕ) : Type 0 where
@@ -80,21 +80,9 @@ within-list len Absent w h = tt
 within-list len (Part at n) w h = w
 within-list len Head w h = h refl
 
--- a kind that passed is 0 or 1
-kind-passed : (k : ℕ) (b : Bool) → (eqb k 0 or (eqb k 1 and b)) ≡ true → k ≤ 1
-kind-passed k b e = go (or-cases (eqb k 0) (eqb k 1 and b) e)
-  where
-    go : (eqb k 0 ≡ true) ⊎ ((eqb k 1 and b) ≡ true) → k ≤ 1
-    go (inl p) = omega (arith, eqb-true k 0 p)
-    go (inr p) = omega (arith, eqb-true k 1 (and-left (eqb k 1) b p))
-
-kind-of : (specs : ℕ) (s : Text) (row : RowPlace) → meaning.rowPasses specs (rowMeant s row) ≡ true → row .kind ≤ 1
-unfolding meaning.rowPasses rowMeant
-kind-of specs s row e = kind-passed (row .kind) _ (and-right (ltb (row .spec) specs) _ e)
-
 module _ (specs : ℕ) (s : Text) (at j : ℕ) (a : At specs s at j) (w : RowStep) (stands : w ≡ rowStepAt specs s at) (says : RowSays specs s at w) where
   module _ (row : RowPlace) (next : Cursor) (e : w ≡ Row row next) where
-    taken : RowTaken specs s at row (next .at)
+    pub taken : RowTaken specs s at row (next .at)
     taken = rw e at says
 
     pub next-row : Next specs s row (next .at) j
@@ -109,17 +97,8 @@ module _ (specs : ℕ) (s : Text) (at j : ℕ) (a : At specs s at j) (w : RowSte
     pub next-at : At specs s (next .at) (j + 1)
     next-at = next-row .there
 
-    pub next-within : RowWithin (length s) row
-    next-within =
-        record {
-          source-within = taken .src-within;
-          destination-within = within-list (length s) (row .dst) (taken .dst-within) (stands-not-head specs s at row next (sym e ∙ stands));
-          spec-small = taken .spec-small;
-          kind-small = kind-of specs s row (taken .passes);
-        }
-
     pub next-destination : InList (length s) (row .dst)
-    next-destination = next-within .destination-within
+    next-destination = within-list (length s) (row .dst) (taken .dst-within) (stands-not-head specs s at row next (sym e ∙ stands))
 
     -- the cursor moves on
     pub moves-on : length s - next .at < length s - at

@@ -1,185 +1,37 @@
--- The conflicts of all destinations, one after the other in byte order. Assumes nothing.
-use mathlib.Core.Path.{_≡_, refl, sym, ap, _∙_}
+-- The conflicts of a row list are those of its sorted index, run by run. Assumes nothing.
+use mathlib.Core.Path.{_≡_, refl, sym, ap, ap₂, subst, _∙_}
 use mathlib.Core.Bool.{Bool, true, false, cond}
-use mathlib.Core.List.{List, [], _∷_, _++_, map, append-nil}
+use mathlib.Core.List.{List, [], _∷_, _++_, map}
 use mathlib.Core.Logic.{_↔_}
 use mathlib.Core.Option.{Option, none, some}
-use Prim.Native.Nat.{ℕ, zero, suc, _+_, _*_, _≤_, _<_}
-use native.Mathlib.Nat.{add-zero}
+use Prim.Native.Nat.{ℕ, zero, suc, _+_, _-_, _*_, _≤_, _<_}
 use native.Mathlib.Omega.{arith}
 use mir.Val.{Fits}
 use mir.Syntax.{w64}
-use lib.ListN.{length, length-append}
-use Rattle.meaning.specs.Bytes.{Text, any, keep, each, same, earlier, insert, inOrder, In, here, there}
-use Rattle.meaning.specs.Number.{numberBytes, textBytes, Step, took, no, Reader}
-use Rattle.meaning.specs.Spec.{Answer, accepted, refused}
-use Rattle.meaning.specs.Lists.{recordThen, withFirst, recordsFrom}
-use Rattle.meaning.specs.Rows.{Row, rowRecord, readRows}
-use Rattle.meaning.specs.Validation.{differ, listed, destinationOf, rowsOnto, twoDiffer, inConflict, firstSeen, rowSource, Conflict, conflictOn, conflicts, sourceBytes, conflictBytes}
-use Rattle.promises.specs.Facts.{records}
-use Rattle.promises.proofs.Laws.{in-any, keep-in}
-use Rattle.promises.proofs.Conflicts.{found-two}
-use Rattle.promises.proofs.Sources.{seen-in, two-listed}
+use borrow.Rule.Slice.PartMut.{putMid, mid-len, drop-put, same-len-mid}
+use lib.ListN.{length, getD, take, drop, length-append, length-drop}
+use lib.Seq.{length-take-le, drop-drop}
+use Rattle.meaning.specs.Bytes.{Text, keep, each, present, inOrder}
+use Rattle.meaning.specs.Number.{numberBytes, textBytes}
+use Rattle.meaning.specs.Rows.{Row}
+use Rattle.meaning.specs.Validation.{listed, destinationOf, isText, onto, rowsOnto, inConflict, Conflict, conflictOn, conflicts, sourceBytes, conflictBytes}
 use Rattle.promises.proofs.Reading.{number-long}
 use Rattle.text.specs.Splice.{splice}
-use Rattle.text.proofs.Splices.{splice-none}
+use Rattle.text.proofs.Rests.{rest-cons, rest-end}
 use Rattle.text.proofs.Writing.{Writing, writing-starts, writing-room, writing-more, written-place, written-whole}
-use Rattle.number.specs.Reading.{largestNumber}
-use Rattle.number.proofs.Bytes.{bytes-few}
-use Rattle.parse.specs.Places.{partAt}
-use Rattle.list.proofs.Records.{accepted-within, accepted-records}
-use Rattle.conflicts.specs.declared.destination.Destination.{Destination}
-use Rattle.conflicts.specs.declared.destination.Destination.the-variants as found
-use Rattle.conflicts.specs.declared.sources.Tally.{Tally}
+use Rattle.order.specs.declared.key.Key.the-variants.{Destination}
+use Rattle.order.specs.Sorting.{insertBy, sortBy, Sorted, runOf, heads, Ascending}
+use Rattle.order.specs.Keys.{rowAt, sameAt, notAfter, sortPlaces}
+use Rattle.order.proofs.Sorts.{sorted-sort}
+use Rattle.order.proofs.Keys.{keys-order}
+use Rattle.order.proofs.Runs.{group-kept}
+use Rattle.order.proofs.Heads.{ascending-keep}
 use Rattle.conflicts.specs.Listed.{rowsIn, RowsRead, conflictsBytes, conflictPart}
-use Rattle.conflicts.specs.Ordered.{destinationMeant, DestinationWithin, Placed, later, firstOf}
-use Rattle.conflicts.specs.FirstSeen.{sourcesOn, sourcesBytes, listedBytes, Told}
-use Rattle.conflicts.proofs.Lowest.{later-next, later-none, later-all}
+use Rattle.conflicts.specs.Indexed.{rowsAt, destinationAt, hasDestination, Given, Indexed, SortedIndex, OneRun, runBytes}
 use Rattle.conflicts.proofs.Walks.{list-short}
-use Rattle.conflicts.proofs.Pieces.{text-long, text-small}
-
--- a destination is in conflict exactly where it has two sources at least
-
-first-two : (l : List Row) → 2 ≤ length (firstSeen l) → twoDiffer l ≡ true
-first-two [] h = absurd (omega arith)
-first-two (r ∷ l) h = go (keep (differ r) (firstSeen l)) refl h
-  where
-    go : (k : List Row) → keep (differ r) (firstSeen l) ≡ k → 2 ≤ suc (length k) → twoDiffer (r ∷ l) ≡ true
-    go [] e g = absurd (omega arith)
-    go (q ∷ k) e g =
-        let i : In q (keep (differ r) (firstSeen l)) = rw e here in
-        let m = keep-in (differ r) (firstSeen l) i in
-        let j : In q (r ∷ l) = there (seen-in l (m .0)) in
-        let f : In r (r ∷ l) = here in
-        in-any (λ x. any (differ x) (r ∷ l)) f (in-any (differ r) j (m .1))
-
-map-long : {A B : Type 0} (f : A → B) (l : List A) → length (map f l) ≡ length l
-map-long f [] = refl
-map-long f (x ∷ l) = ap suc (map-long f l)
-
-each-map : {A B C : Type 0} (f : A → B) (g : B → List C) (l : List A) → each (map f l) g ≡ each l (λ x. g (f x))
-each-map f g [] = refl
-each-map f g (x ∷ l) = ap (λ k. g (f x) ++ k) (each-map f g l)
-
-module _ (rows : List Row) (d : Text) where
-  two-is : 2 ≤ length (sourcesOn rows d) → inConflict rows d ≡ true
-  unfolding inConflict sourcesOn
-  two-is h = first-two (rowsOnto rows d) h
-
-  one-is : length (sourcesOn rows d) < 2 → inConflict rows d ≡ false
-  unfolding sourcesOn
-  one-is h = go (inConflict rows d) refl
-    where
-      go : (b : Bool) → inConflict rows d ≡ b → b ≡ false
-      go true e = let t = two-listed rows d (found-two rows d e) in absurd (omega (arith, map-long rowSource (sourcesOn rows d)))
-      go false e = refl
-
-  part-none : length (sourcesOn rows d) < 2 → conflictPart rows d ≡ []
-  unfolding conflictPart
-  part-none h = rw (one-is h)
-
-  part-pieces : 2 ≤ length (sourcesOn rows d) → conflictPart rows d ≡ listedBytes rows d
-  unfolding conflictPart conflictOn conflictBytes sourcesOn sourcesBytes listedBytes
-  part-pieces h = rw (two-is h, map-long rowSource (sourcesOn rows d), each-map rowSource sourceBytes (sourcesOn rows d))
-
--- the conflict on one destination, measured and written
-module _ (rows : List Row) (d : Text) (t : Tally) (told : Told (sourcesOn rows d) t) where
-  pub none-size : t .count < 2 → 0 ≡ length (conflictPart rows d)
-  none-size h = rw (part-none rows d (omega (arith, told .counted)))
-
-  pub none-put : t .count < 2 → (o : Text) (end : ℕ) → o ≡ splice o end (conflictPart rows d)
-  none-put h o end = rw (part-none rows d (omega (arith, told .counted))) (sym (splice-none o end))
-
-  pub none-after : t .count < 2 → (end : ℕ) → end ≡ end + length (conflictPart rows d)
-  none-after h end = rw (part-none rows d (omega (arith, told .counted))) (sym (add-zero end))
-
-  pieces : 2 ≤ t .count → conflictPart rows d ≡ listedBytes rows d
-  pieces h = part-pieces rows d (omega (arith, told .counted))
-
-  module _ (two : 2 ≤ t .count) (o : Text) (end : ℕ) where
-    pub listed-room : end + length (conflictPart rows d) ≤ length o → end + length (listedBytes rows d) ≤ length o
-    listed-room h = rw (pieces two) at h
-
-    pub conflict-put : (q : Text) → q ≡ splice o end (listedBytes rows d) → q ≡ splice o end (conflictPart rows d)
-    conflict-put q h = rw (pieces two) h
-
-    pub conflict-after : (k : ℕ) → k ≡ end + length (listedBytes rows d) → k ≡ end + length (conflictPart rows d)
-    conflict-after k h = rw (pieces two) h
-
-pub count-small : (count : ℕ) → count ≤ 1048576 → count ≤ largestNumber
-count-small count h = omega arith
-
-module _ (rows : List Row) (d : Text) (count : ℕ) (counted : count ≡ length (sourcesOn rows d)) where
-  listed-pieces : listedBytes rows d ≡ textBytes d ++ (numberBytes count ++ sourcesBytes rows d)
-  unfolding listedBytes
-  listed-pieces = rw counted
-
-  module _ (o : Text) (end : ℕ) (fits : end + length (listedBytes rows d) ≤ length o) where
-    abbrev whole : Text
-    whole = listedBytes rows d
-
-    start : Writing o end whole o end whole
-    start = writing-starts o end whole fits
-
-    pub destination-room : end + length (textBytes d) ≤ length o
-    destination-room = writing-room o end whole o end whole start (textBytes d) (numberBytes count ++ sourcesBytes rows d) listed-pieces
-
-    module _ (o₁ : Text) (i : ℕ) (p₁ : o₁ ≡ splice o end (textBytes d)) (e₁ : i ≡ end + length (textBytes d)) where
-      first : Writing o end whole o₁ i (numberBytes count ++ sourcesBytes rows d)
-      first = writing-more o end whole o end whole start (textBytes d) (numberBytes count ++ sourcesBytes rows d) listed-pieces o₁ i p₁ e₁
-
-      pub count-room : i + length (numberBytes count) ≤ length o₁
-      count-room = writing-room o end whole o₁ i (numberBytes count ++ sourcesBytes rows d) first (numberBytes count) (sourcesBytes rows d) refl
-
-      module _ (o₂ : Text) (j : ℕ) (p₂ : o₂ ≡ splice o₁ i (numberBytes count)) (e₂ : j ≡ i + length (numberBytes count)) where
-        second : Writing o end whole o₂ j (sourcesBytes rows d)
-        second = writing-more o end whole o₁ i (numberBytes count ++ sourcesBytes rows d) first (numberBytes count) (sourcesBytes rows d) refl o₂ j p₂ e₂
-
-        pub sources-room : j + length (sourcesBytes rows d) ≤ length o₂
-        sources-room = writing-room o end whole o₂ j (sourcesBytes rows d) second (sourcesBytes rows d) [] (sym (append-nil (sourcesBytes rows d)))
-
-        module _ (o₃ : Text) (k : ℕ) (p₃ : o₃ ≡ splice o₂ j (sourcesBytes rows d)) (e₃ : k ≡ j + length (sourcesBytes rows d)) where
-          third : Writing o end whole o₃ k []
-          third = writing-more o end whole o₂ j (sourcesBytes rows d) second (sourcesBytes rows d) [] (sym (append-nil (sourcesBytes rows d))) o₃ k p₃ e₃
-
-          pub listed-put : o₃ ≡ splice o end (listedBytes rows d)
-          listed-put = written-whole o end whole o₃ k [] third refl
-
-          pub listed-after : k ≡ end + length (listedBytes rows d)
-          listed-after = written-place o end whole o₃ k [] third refl
-
--- the size of a conflict
-module _ (specs : ℕ) (s : Text) (r : RowsRead specs s) (at len : ℕ) (inside : at + len ≤ length s) where
-  pub place-small : len ≤ largestNumber
-  place-small = text-small s at len inside (list-short specs s r)
-
-  pub place-short : length s ≤ 1048576
-  place-short = list-short specs s r
-
-  module _ (x : ℕ) (ex : x ≡ length (numberBytes len)) where
-    pub size-one : Fits w64 (x + len)
-    size-one = omega (arith, bytes-few len, list-short specs s r)
-
-    module _ (t : Tally) (told : Told (sourcesOn (rowsIn specs s) (partAt s at len)) t) (y : ℕ) (ey : y ≡ length (numberBytes (t .count))) where
-      pub size-two : Fits w64 (x + len + y)
-      size-two = omega (arith, bytes-few len, bytes-few (t .count), list-short specs s r)
-
-      pub size-three : Fits w64 (x + len + y + t .size)
-      size-three = omega (arith, bytes-few len, bytes-few (t .count), list-short specs s r, told .small)
-
-      pub size-small : x + len + y + t .size ≤ 2000000000000
-      size-small = omega (arith, bytes-few len, bytes-few (t .count), list-short specs s r, told .small)
-
-      pub size-whole : 2 ≤ t .count → x + len + y + t .size ≡ length (conflictPart (rowsIn specs s) (partAt s at len))
-      unfolding sourcesBytes
-      size-whole h =
-          let b = sourcesBytes (rowsIn specs s) (partAt s at len) in
-          let u = textBytes (partAt s at len) in
-          let v = text-long s at len inside x ex in
-          let q = pieces (rowsIn specs s) (partAt s at len) t told h ∙ listed-pieces (rowsIn specs s) (partAt s at len) (t .count) (told .counted) in
-          omega (arith, told .measured, ap length q, length-append u (numberBytes (t .count) ++ b), length-append (numberBytes (t .count)) b)
-
--- all destinations
+use Rattle.conflicts.proofs.Shares.{each-map}
+use Rattle.conflicts.proofs.InOrder.{in-order}
+use Rattle.conflicts.proofs.Grouped.{part-by, walk, walk-run, onto-keep, onto-again, run-shares}
 
 each-kept : {A B C : Type 0} (test : A → Bool) (f : A → B) (g : B → List C) (l : List A) → each (map f (keep test l)) g ≡ each l (λ x. cond (test x) (g (f x)) [])
 each-kept test f g [] = refl
@@ -190,134 +42,258 @@ each-kept test f g (x ∷ l) = go (test x) (each-kept test f g l)
     go false e = e
 
 -- the bytes of the conflicts, destination by destination
-pub conflicts-parts : (rows : List Row) → each (later rows none) (conflictPart rows) ≡ conflictsBytes rows
+conflicts-parts : (rows : List Row) → each (inOrder (each rows destinationOf)) (conflictPart rows) ≡ conflictsBytes rows
 unfolding conflictsBytes conflicts conflictPart
-conflicts-parts rows = rw (later-all rows) (sym (each-kept (inConflict rows) (conflictOn rows) conflictBytes (inOrder (each rows destinationOf))))
+conflicts-parts rows = sym (each-kept (inConflict rows) (conflictOn rows) conflictBytes (inOrder (each rows destinationOf)))
 
--- there are no more destinations than rows, and no more rows than bytes
+-- only rows with a destination matter
 
-insert-long : (t : Text) (l : List Text) → length (insert t l) ≤ suc (length l)
-insert-long t [] = omega arith
-insert-long t (u ∷ l) = go (same t u) (earlier t u) (insert-long t l)
-  where
-    go : (b c : Bool) → length (insert t l) ≤ suc (length l) → length (cond b (u ∷ l) (cond c (t ∷ u ∷ l) (u ∷ insert t l))) ≤ suc (suc (length l))
-    go true c h = omega arith
-    go false true h = omega arith
-    go false false h = omega arith
-
-order-long : (rows : List Row) → length (inOrder (each rows destinationOf)) ≤ length rows
+destinations-kept : (rows : List Row) → each (keep hasDestination rows) destinationOf ≡ each rows destinationOf
 unfolding destinationOf
-order-long [] = omega arith
-order-long (r ∷ rows) = go (r .destination) (order-long rows)
+destinations-kept [] = refl
+destinations-kept (r ∷ rows) = go (r .destination) refl (destinations-kept rows)
   where
-    go : (o : Option Text) → length (inOrder (each rows (λ q. listed (q .destination)))) ≤ length rows → length (inOrder (listed o ++ each rows (λ q. listed (q .destination)))) ≤ suc (length rows)
-    go none h = omega arith
-    go (some t) h = omega (arith, insert-long t (inOrder (each rows (λ q. listed (q .destination)))))
+    go : (o : Option Text) → r .destination ≡ o → each (keep hasDestination rows) (λ q. listed (q .destination)) ≡ each rows (λ q. listed (q .destination))
+        → each (cond (present o) (r ∷ keep hasDestination rows) (keep hasDestination rows)) (λ q. listed (q .destination)) ≡ listed o ++ each rows (λ q. listed (q .destination))
+    go none f i = i
+    go (some t) f i = rw f (ap (λ (k : List Text). t ∷ k) i)
 
-module _ {B : Type 0} (one : ℕ → Reader B) where
-  first-few : (k : ℕ) (l : List B) (b : B) (a : Answer (List B)) → ((m : List B) → a ≡ accepted m → length m ≤ k) → withFirst b a ≡ accepted l → length l ≤ suc k
-  first-few k l b (accepted m) h f = let q : b ∷ m ≡ l = cc in omega (arith, h m refl, ap length q)
-  first-few k l b (refused n r) h f = absurd (let z : _≡_ {A = ℕ} 0 1 = cc in omega arith)
+onto-kept : (rows : List Row) (d : Text) → rowsOnto (keep hasDestination rows) d ≡ rowsOnto rows d
+unfolding onto
+onto-kept [] d = refl
+onto-kept (r ∷ rows) d = go (r .destination) refl (onto-kept rows d)
+  where
+    go : (o : Option Text) → r .destination ≡ o → keep (λ q. isText d (q .destination)) (keep hasDestination rows) ≡ keep (λ q. isText d (q .destination)) rows
+        → keep (λ q. isText d (q .destination)) (cond (present o) (r ∷ keep hasDestination rows) (keep hasDestination rows)) ≡ cond (isText d o) (r ∷ keep (λ q. isText d (q .destination)) rows) (keep (λ q. isText d (q .destination)) rows)
+    go none f i = i
+    go (some t) f i = rw (f, i)
 
-  step-few : (k i : ℕ) (l : List B) (st : Step B) → ((rest : Text) (m : List B) → recordsFrom one k (suc i) rest ≡ accepted m → length m ≤ k) → recordThen i st (λ rest. recordsFrom one k (suc i) rest) ≡ accepted l → length l ≤ suc k
-  step-few k i l (took b rest) h f = first-few k l b (recordsFrom one k (suc i) rest) (h rest) f
-  step-few k i l (no n) h f = absurd (let z : _≡_ {A = ℕ} 0 1 = cc in omega arith)
+destinations-at : (s : Text) (l : List ℕ) → Given s l → each (rowsAt s l) destinationOf ≡ map (destinationAt s) l
+unfolding destinationOf destinationAt
+destinations-at s [] g = refl
+destinations-at s (p ∷ l) g = go (rowAt s p .destination) refl (g .0) (destinations-at s l (g .1))
+  where
+    go : (o : Option Text) → rowAt s p .destination ≡ o → present (rowAt s p .destination) ≡ true → each (rowsAt s l) (λ q. listed (q .destination)) ≡ map (destinationAt s) l
+        → listed (rowAt s p .destination) ++ each (rowsAt s l) (λ q. listed (q .destination)) ≡ destinationAt s p ∷ map (destinationAt s) l
+    go none f h i = absurd (let z : false ≡ true = rw f at h in let y : _≡_ {A = ℕ} 0 1 = cc in omega arith)
+    go (some t) f h i = rw (f, i)
 
-  records-few : (k i : ℕ) (s : Text) (l : List B) → recordsFrom one k i s ≡ accepted l → length l ≤ k
-  records-few zero i [] l e = let q : [] ≡ l = cc in omega (arith, ap length q)
-  records-few zero i (x ∷ s) l e = absurd (let z : _≡_ {A = ℕ} 0 1 = cc in omega arith)
-  records-few (suc k) i [] l e = let q : [] ≡ l = cc in omega (arith, ap length q)
-  records-few (suc k) i (x ∷ s) l e = step-few k i l (one i (x ∷ s)) (λ rest m f. records-few k (suc i) rest m f) e
+given-insert : (s : Text) (le : ℕ → ℕ → Bool) (p : ℕ) (l : List ℕ) → hasDestination (rowAt s p) ≡ true → Given s l → Given s (insertBy le p l)
+given-insert s le p [] h g = (h, tt)
+given-insert s le p (q ∷ l) h g = go (le p q) (given-insert s le p l h (g .1))
+  where
+    go : (b : Bool) → Given s (insertBy le p l) → Given s (cond b (p ∷ q ∷ l) (q ∷ insertBy le p l))
+    go true i = (h, g)
+    go false i = (g .0, i)
 
-rows-few : (specs : ℕ) (s : Text) (l : List Row) → readRows specs s ≡ accepted l → length l ≤ 1048576
-unfolding readRows records
-rows-few specs s l e =
-    omega (arith, records-few (rowRecord specs) (length s) 0 s l (accepted-records 1048576 (rowRecord specs) s l e), accepted-within 1048576 (rowRecord specs) s l e)
+given-sort : (s : Text) (le : ℕ → ℕ → Bool) (l : List ℕ) → Given s l → Given s (sortBy le l)
+given-sort s le [] g = tt
+given-sort s le (p ∷ l) g = given-insert s le p (sortBy le l) (g .0) (given-sort s le l (g .1))
 
-later-few : (specs : ℕ) (s : Text) → RowsRead specs s → length (later (rowsIn specs s) none) ≤ 1048576
-later-few specs s r =
-    let few : length (rowsIn specs s) ≤ 1048576 = rw (r .reads) (rows-few specs s (r .list) (r .reads)) in
-    rw (later-all (rowsIn specs s)) (omega (arith, order-long (rowsIn specs s)))
+module _ (specs : ℕ) (s : Text) (d : List ℕ) (x : SortedIndex specs s d) where
+  abbrev rows : List Row
+  rows = rowsIn specs s
 
--- the place that the search answers
-module _ (specs : ℕ) (s : Text) (last new : Destination) (p : Placed s (firstOf (later (rowsIn specs s) (destinationMeant s last))) new) where
-  abbrev rest : List Text
-  rest = later (rowsIn specs s) (destinationMeant s last)
+  group : (p : ℕ) → keep (sameAt Destination s p) d ≡ keep (sameAt Destination s p) (x .places)
+  group p = ap (keep (sameAt Destination s p)) (x .sorted) ∙ group-kept Destination s (x .places) p
 
-  none-rest : new ≡ found.Nothing → rest ≡ []
-  none-rest e = later-none (rowsIn specs s) (destinationMeant s last) (sym (p .means) ∙ ap (destinationMeant s) e)
+  rows-on : (p : ℕ) → rowsOnto rows (destinationAt s p) ≡ rowsAt s (keep (sameAt Destination s p) d)
+  rows-on p =
+      sym (onto-kept rows (destinationAt s p)) ∙ ap (λ (l : List Row). rowsOnto l (destinationAt s p)) (sym (x .indexed .rows-are))
+      ∙ onto-keep s p (x .places) (x .indexed .given) ∙ ap (rowsAt s) (sym (group p))
 
-  module _ (at len : ℕ) (e : new ≡ found.At at len) where
-    next-rest : rest ≡ partAt s at len ∷ later (rowsIn specs s) (some (partAt s at len))
-    next-rest = later-next (rowsIn specs s) (destinationMeant s last) (partAt s at len) (sym (p .means) ∙ ap (destinationMeant s) e)
+  part-is : (p : ℕ) → conflictPart rows (destinationAt s p) ≡ conflictPart (rowsAt s (keep (sameAt Destination s p) d)) (destinationAt s p)
+  part-is p =
+      part-by rows (rowsAt s (keep (sameAt Destination s p) d)) (destinationAt s p)
+      (rows-on p ∙ ap (rowsAt s) (group p) ∙ sym (onto-again s p (x .places) (x .indexed .given)) ∙ ap (λ (l : List ℕ). rowsOnto (rowsAt s l) (destinationAt s p)) (sym (group p)))
 
-    pub next-inside : at + len ≤ length s
-    next-inside = rw e at (p .within)
+  parts-are : (l : List ℕ) → each l (λ p. conflictPart rows (destinationAt s p)) ≡ each l (λ p. conflictPart (rowsAt s (keep (sameAt Destination s p) d)) (destinationAt s p))
+  parts-are [] = refl
+  parts-are (p ∷ l) = rw (part-is p, parts-are l)
 
-    -- one destination fewer is left
-    pub next-less : length (later (rowsIn specs s) (some (partAt s at len))) < length (later (rowsIn specs s) (destinationMeant s last))
-    next-less = omega (arith, ap length next-rest)
+  -- the whole, destination by destination
+  walk-whole : walk s d ≡ conflictsBytes rows
+  walk-whole =
+      let e : each rows destinationOf ≡ map (destinationAt s) (x .places) = sym (destinations-kept rows) ∙ ap (λ (l : List Row). each l destinationOf) (sym (x .indexed .rows-are)) ∙ destinations-at s (x .places) (x .indexed .given) in
+      let o : inOrder (each rows destinationOf) ≡ map (destinationAt s) (heads (sameAt Destination s) d) = ap inOrder e ∙ in-order s (x .places) ∙ ap (λ (l : List ℕ). map (destinationAt s) (heads (sameAt Destination s) l)) (sym (x .sorted)) in
+      sym (parts-are (heads (sameAt Destination s) d)) ∙ sym (each-map (destinationAt s) (conflictPart rows) (heads (sameAt Destination s) d)) ∙ ap (λ (l : List Text). each l (conflictPart rows)) (sym o) ∙ conflicts-parts rows
 
-    next-bytes : each rest (conflictPart (rowsIn specs s)) ≡ conflictPart (rowsIn specs s) (partAt s at len) ++ each (later (rowsIn specs s) (some (partAt s at len))) (conflictPart (rowsIn specs s))
-    next-bytes = ap (λ l. each l (conflictPart (rowsIn specs s))) next-rest
+  index-sorted : Sorted (notAfter Destination s) d
+  index-sorted = rw (x .sorted) (sorted-sort (notAfter Destination s) (keys-order Destination s) (x .places))
 
--- the conflicts up to a destination are measured
-pub record Measured (specs : ℕ) (s : Text) (size : ℕ) (last : Destination) : Type 0 where
-  pub done : size + length (each (later (rowsIn specs s) (destinationMeant s last)) (conflictPart (rowsIn specs s))) ≡ length (conflictsBytes (rowsIn specs s))
-  pub small : size + 2000000000000 * length (later (rowsIn specs s) (destinationMeant s last)) ≤ 2000000000000 * 1048576
-  pub within : DestinationWithin (length s) last
+  index-grouped : (p : ℕ) → Ascending (keep (sameAt Destination s p) d)
+  index-grouped p = rw (group p) (ascending-keep (sameAt Destination s p) (x .places) (x .indexed .ascends))
 
-pub measured-starts : (specs : ℕ) (s : Text) → RowsRead specs s → Measured specs s 0 found.Nothing
-measured-starts specs s r =
-    record { done = omega (arith, ap length (conflicts-parts (rowsIn specs s))); small = omega (arith, later-few specs s r); within = tt }
+  index-given : Given s d
+  index-given = rw (x .sorted) (given-sort s (notAfter Destination s) (x .places) (x .indexed .given))
 
-module _ (specs : ℕ) (s : Text) (size : ℕ) (last : Destination) (m : Measured specs s size last) (new : Destination) (p : Placed s (firstOf (later (rowsIn specs s) (destinationMeant s last))) new) where
-  pub measured-whole : new ≡ found.Nothing → size ≡ length (conflictsBytes (rowsIn specs s))
-  measured-whole e = omega (arith, m .done, ap (λ l. length (each l (conflictPart (rowsIn specs s)))) (none-rest specs s last new p e))
+-- what is left of an index
 
-  module _ (at len : ℕ) (e : new ≡ found.At at len) (n : ℕ) (b : n ≤ 2000000000000) where
-    pub measured-fits : Fits w64 (size + n)
-    measured-fits = omega (arith, m .small, ap length (next-rest specs s last new p at len e))
+sorted-drop : (le : ℕ → ℕ → Bool) (i : ℕ) (l : List ℕ) → Sorted le l → Sorted le (drop i l)
+sorted-drop le zero l o = o
+sorted-drop le (suc i) [] o = o
+sorted-drop le (suc i) (x ∷ l) o = sorted-drop le i l (o .1)
 
-    pub measured-more : n ≡ length (conflictPart (rowsIn specs s) (partAt s at len)) → Measured specs s (size + n) (found.At at len)
-    measured-more h =
-        let l = each (later (rowsIn specs s) (some (partAt s at len))) (conflictPart (rowsIn specs s)) in
+given-drop : (s : Text) (i : ℕ) (l : List ℕ) → Given s l → Given s (drop i l)
+given-drop s zero l g = g
+given-drop s (suc i) [] g = g
+given-drop s (suc i) (x ∷ l) g = given-drop s i l (g .1)
+
+grouped-drop : (test : ℕ → Bool) (i : ℕ) (l : List ℕ) → Ascending (keep test l) → Ascending (keep test (drop i l))
+grouped-drop test zero l a = a
+grouped-drop test (suc i) [] a = a
+grouped-drop test (suc i) (x ∷ l) a = grouped-drop test i l (go (test x) a)
+  where
+    go : (b : Bool) → Ascending (cond b (x ∷ keep test l) (keep test l)) → Ascending (keep test l)
+    go true c = c .1
+    go false c = c
+
+-- the index from a position on, where a run begins
+pub record Here (s : Text) (d : List ℕ) (i : ℕ) : Type 0 where
+  pub within : i ≤ length d
+  pub sorted : Sorted (notAfter Destination s) (drop i d)
+  pub given : Given s (drop i d)
+  pub grouped : (p : ℕ) → Ascending (keep (sameAt Destination s p) (drop i d))
+
+here-starts : (specs : ℕ) (s : Text) (d : List ℕ) → SortedIndex specs s d → Here s d 0
+here-starts specs s d x = record { within = omega arith; sorted = index-sorted specs s d x; given = index-given specs s d x; grouped = index-grouped specs s d x }
+
+module _ (s : Text) (d : List ℕ) (i : ℕ) (h : Here s d i) (some : i < length d) (end : ℕ) (run : end ≡ i + runOf (sameAt Destination s (getD d i 0)) (drop i d)) (begun : i < end) (room : end ≤ length d) where
+  abbrev first : ℕ
+  first = getD d i 0
+
+  abbrev size : ℕ
+  size = runOf (sameAt Destination s first) (first ∷ drop (i + 1) d)
+
+  abbrev rest : List ℕ
+  rest = first ∷ drop (i + 1) d
+
+  left : drop i d ≡ rest
+  left = rest-cons d i some
+
+  size-is : end - i ≡ size
+  size-is = omega (arith, ap (runOf (sameAt Destination s first)) left)
+
+  after-is : drop size rest ≡ drop end d
+  after-is =
+      let e : i + size ≡ end = omega (arith, size-is) in
+      ap (drop size) (sym left) ∙ drop-drop size i d ∙ ap (λ (n : ℕ). drop n d) e
+
+  run-is : take (end - i) (drop i d) ≡ take size rest
+  run-is = ap (λ (n : ℕ). take n (drop i d)) size-is ∙ ap (take size) left
+
+  rest-sorted : Sorted (notAfter Destination s) rest
+  rest-sorted = subst (Sorted (notAfter Destination s)) left (h .sorted)
+
+  rest-given : Given s rest
+  rest-given = subst (Given s) left (h .given)
+
+  rest-grouped : (p : ℕ) → Ascending (keep (sameAt Destination s p) rest)
+  rest-grouped p = subst (λ (l : List ℕ). Ascending (keep (sameAt Destination s p) l)) left (h .grouped p)
+
+  pub run-one : OneRun s (take (end - i) (drop i d))
+  run-one = subst (OneRun s) (sym run-is) (run-shares s first (drop (i + 1) d) rest-sorted rest-given (rest-grouped first))
+
+  pub run-long : length (take (end - i) (drop i d)) ≡ end - i
+  run-long = mid-len i end d room
+
+  pub run-some : 0 < length (take (end - i) (drop i d))
+  run-some = omega (arith, run-long)
+
+  pub run-small : length d ≤ 1048576 → length (take (end - i) (drop i d)) ≤ 1048576
+  run-small k = omega (arith, run-long)
+
+  pub run-room : (n : ℕ) → length d ≤ 2 * n + 1 → length (take (end - i) (drop i d)) ≤ 2 * n + 1
+  run-room n k = omega (arith, run-long)
+
+  walk-on : walk s (drop i d) ≡ runBytes s (take (end - i) (drop i d)) ++ walk s (drop end d)
+  walk-on = ap (walk s) left ∙ walk-run s first (drop (i + 1) d) rest-sorted ∙ ap₂ (λ (x y : List ℕ). runBytes s x ++ walk s y) (sym run-is) after-is
+
+  module _ (ys : List ℕ) (same : length ys ≡ length (take (end - i) (drop i d))) where
+    abbrev back : List ℕ
+    back = putMid i (end - i) d ys
+
+    back-drop : drop end back ≡ drop end d
+    back-drop = drop-put i end d ys (omega arith) room (same ∙ run-long)
+
+    back-long : length back ≡ length d
+    back-long = same-len-mid i (end - i) d ys same
+
+    there : drop size rest ≡ drop end back
+    there = after-is ∙ sym back-drop
+
+    here-next : Here s back end
+    here-next =
         record {
-          done = omega (arith, m .done, ap length (next-bytes specs s last new p at len e), length-append (conflictPart (rowsIn specs s) (partAt s at len)) l);
-          small = omega (arith, m .small, ap length (next-rest specs s last new p at len e));
-          within = next-inside specs s last new p at len e;
+          within = omega (arith, back-long);
+          sorted = subst (Sorted (notAfter Destination s)) there (sorted-drop (notAfter Destination s) size rest rest-sorted);
+          given = subst (Given s) there (given-drop s size rest rest-given);
+          grouped = λ p. subst (λ (l : List ℕ). Ascending (keep (sameAt Destination s p) l)) there (grouped-drop (sameAt Destination s p) size rest (rest-grouped p));
         }
 
--- the conflicts up to a destination are written
-pub record Put (specs : ℕ) (s buffer out : Text) (end : ℕ) (last : Destination) : Type 0 where
-  pub writing : Writing buffer 0 (conflictsBytes (rowsIn specs s)) out end (each (later (rowsIn specs s) (destinationMeant s last)) (conflictPart (rowsIn specs s)))
-  pub within : DestinationWithin (length s) last
+-- the runs before a position are measured
+pub record Walking (specs : ℕ) (s : Text) (d₀ d : List ℕ) (i size : ℕ) : Type 0 where
+  pub at : Here s d i
+  pub same-long : length d ≡ length d₀
+  pub measured : size + length (walk s (drop i d)) ≡ length (conflictsBytes (rowsIn specs s))
+  pub small : size ≤ i * 2000000000000
 
-pub put-starts : (specs : ℕ) (s buffer : Text) → length (conflictsBytes (rowsIn specs s)) ≤ length buffer → Put specs s buffer buffer 0 found.Nothing
-put-starts specs s buffer h =
-    record { writing = rw (conflicts-parts (rowsIn specs s)) (writing-starts buffer 0 (conflictsBytes (rowsIn specs s)) (omega arith)); within = tt }
+pub walking-starts : (specs : ℕ) (s : Text) (d : List ℕ) → SortedIndex specs s d → Walking specs s d d 0 0
+walking-starts specs s d x = record { at = here-starts specs s d x; same-long = refl; measured = omega (arith, ap length (walk-whole specs s d x)); small = omega arith }
 
-module _ (specs : ℕ) (s buffer out : Text) (end : ℕ) (last : Destination) (k : Put specs s buffer out end last) where
-  module _ (new : Destination) (p : Placed s (firstOf (later (rowsIn specs s) (destinationMeant s last))) new) where
-    pub put-whole : new ≡ found.Nothing → out ≡ splice buffer 0 (conflictsBytes (rowsIn specs s))
-    put-whole e =
-        written-whole buffer 0 (conflictsBytes (rowsIn specs s)) out end (each (later (rowsIn specs s) (destinationMeant s last)) (conflictPart (rowsIn specs s))) (k .writing)
-        (ap (λ l. each l (conflictPart (rowsIn specs s))) (none-rest specs s last new p e))
+module _ (specs : ℕ) (s : Text) (d₀ d : List ℕ) (i size : ℕ) (m : Walking specs s d₀ d i size) where
+  pub walking-done : length d ≤ i → size ≡ length (conflictsBytes (rowsIn specs s))
+  walking-done h = omega (arith, m .measured, ap (λ (l : List ℕ). length (walk s l)) (rest-end d i h))
 
-    module _ (at len : ℕ) (e : new ≡ found.At at len) where
-      pub put-room : end + length (conflictPart (rowsIn specs s) (partAt s at len)) ≤ length out
-      put-room =
-          writing-room buffer 0 (conflictsBytes (rowsIn specs s)) out end (each (later (rowsIn specs s) (destinationMeant s last)) (conflictPart (rowsIn specs s))) (k .writing)
-          (conflictPart (rowsIn specs s) (partAt s at len)) (each (later (rowsIn specs s) (some (partAt s at len))) (conflictPart (rowsIn specs s))) (next-bytes specs s last new p at len e)
+  module _ (some : i < length d) (end : ℕ) (run : end ≡ i + runOf (sameAt Destination s (getD d i 0)) (drop i d)) (begun : i < end) (room : end ≤ length d) (n : ℕ) (few : n ≤ 2000000000000) where
+    pub walking-fits : length d₀ ≤ 1048576 → Fits w64 (size + n)
+    walking-fits h = omega (arith, m .small, m .same-long)
 
-      pub put-more : (o : Text) (stop : ℕ) → o ≡ splice out end (conflictPart (rowsIn specs s) (partAt s at len)) → stop ≡ end + length (conflictPart (rowsIn specs s) (partAt s at len)) → Put specs s buffer o stop (found.At at len)
-      put-more o stop q h =
-          record {
-            writing =
-                writing-more buffer 0 (conflictsBytes (rowsIn specs s)) out end (each (later (rowsIn specs s) (destinationMeant s last)) (conflictPart (rowsIn specs s))) (k .writing)
-                (conflictPart (rowsIn specs s) (partAt s at len)) (each (later (rowsIn specs s) (some (partAt s at len))) (conflictPart (rowsIn specs s))) (next-bytes specs s last new p at len e) o stop q h;
-            within = next-inside specs s last new p at len e;
-          }
+    pub walking-more : n ≡ length (runBytes s (take (end - i) (drop i d))) → (ys : List ℕ) → length ys ≡ length (take (end - i) (drop i d)) → Walking specs s d₀ (putMid i (end - i) d ys) end (size + n)
+    walking-more e ys same =
+        record {
+          at = here-next s d i (m .at) some end run begun room ys same;
+          same-long = back-long s d i (m .at) some end run begun room ys same ∙ m .same-long;
+          measured =
+              let w = walk-on s d i (m .at) some end run begun room in
+              let b = back-drop s d i (m .at) some end run begun room ys same in
+              omega (arith, m .measured, ap length w, length-append (runBytes s (take (end - i) (drop i d))) (walk s (drop end d)), ap (λ (l : List ℕ). length (walk s l)) b);
+          small = omega (arith, m .small);
+        }
+
+-- the runs before a position are written
+pub record Putting (specs : ℕ) (s : Text) (d₀ d : List ℕ) (i : ℕ) (buffer out : Text) (to : ℕ) : Type 0 where
+  pub at : Here s d i
+  pub same-long : length d ≡ length d₀
+  pub writing : Writing buffer 0 (conflictsBytes (rowsIn specs s)) out to (walk s (drop i d))
+
+pub putting-starts : (specs : ℕ) (s : Text) (d : List ℕ) → SortedIndex specs s d → (buffer : Text) → length (conflictsBytes (rowsIn specs s)) ≤ length buffer → Putting specs s d d 0 buffer buffer 0
+putting-starts specs s d x buffer h =
+    record { at = here-starts specs s d x; same-long = refl; writing = rw (walk-whole specs s d x) (writing-starts buffer 0 (conflictsBytes (rowsIn specs s)) (omega arith)) }
+
+module _ (specs : ℕ) (s : Text) (d₀ d : List ℕ) (i : ℕ) (buffer out : Text) (to : ℕ) (k : Putting specs s d₀ d i buffer out to) where
+  pub putting-done : length d ≤ i → out ≡ splice buffer 0 (conflictsBytes (rowsIn specs s))
+  putting-done h = written-whole buffer 0 (conflictsBytes (rowsIn specs s)) out to (walk s (drop i d)) (k .writing) (ap (walk s) (rest-end d i h))
+
+  module _ (some : i < length d) (end : ℕ) (run : end ≡ i + runOf (sameAt Destination s (getD d i 0)) (drop i d)) (begun : i < end) (room : end ≤ length d) where
+    pub putting-room : to + length (runBytes s (take (end - i) (drop i d))) ≤ length out
+    putting-room =
+        writing-room buffer 0 (conflictsBytes (rowsIn specs s)) out to (walk s (drop i d)) (k .writing) (runBytes s (take (end - i) (drop i d))) (walk s (drop end d)) (walk-on s d i (k .at) some end run begun room)
+
+    pub putting-more : (new : Text) (stop : ℕ) → new ≡ splice out to (runBytes s (take (end - i) (drop i d))) → stop ≡ to + length (runBytes s (take (end - i) (drop i d)))
+        → (ys : List ℕ) → length ys ≡ length (take (end - i) (drop i d)) → Putting specs s d₀ (putMid i (end - i) d ys) end buffer new stop
+    putting-more new stop p q ys same =
+        record {
+          at = here-next s d i (k .at) some end run begun room ys same;
+          same-long = back-long s d i (k .at) some end run begun room ys same ∙ k .same-long;
+          writing =
+              rw (back-drop s d i (k .at) some end run begun room ys same)
+              (writing-more buffer 0 (conflictsBytes (rowsIn specs s)) out to (walk s (drop i d)) (k .writing) (runBytes s (take (end - i) (drop i d))) (walk s (drop end d)) (walk-on s d i (k .at) some end run begun room) new stop p q);
+        }
+
+-- an index that was filled, and sorted
+pub index-sorts : (specs : ℕ) (s : Text) (d e : List ℕ) → Indexed specs s d → e ≡ sortPlaces Destination s d → SortedIndex specs s e
+index-sorts specs s d e i q = record { places = d; indexed = i; sorted = q }
 
 -- there are bytes exactly where there are conflicts
 

@@ -1,5 +1,5 @@
--- `Listed`: the rows of a list that was read, and the bytes of their conflicts. `Ordered`: the next destination in byte order.
--- `FirstSeen`: the sources of a destination, row by row.
+-- `Listed`: the rows of a list that was read, and the bytes of their conflicts. `FirstSeen`: the sources of a destination, each once.
+-- `Indexed`: places of rows that have a destination, and the conflict of those that share one.
 pub mod Listed
-pub mod Ordered
 pub mod FirstSeen
+pub mod Indexed

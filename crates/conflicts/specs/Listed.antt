@@ -7,10 +7,8 @@ use Rattle.meaning.specs.Bytes.{Text, each}
 use Rattle.meaning.specs.Spec.{Answer, accepted, refused}
 use Rattle.meaning.specs.Rows.{Row, readRows}
 use Rattle.meaning.specs.Validation.{inConflict, conflictOn, conflicts, conflictBytes}
-use Rattle.number.specs.Reading.{largestNumber}
 use Rattle.parse.specs.declared.types.Side.{Side}
 use Rattle.parse.specs.declared.types.Side.the-variants.{Absent, Part, Head}
-use Rattle.list.specs.declared.rows.RowPlace.{RowPlace}
 
 -- the rows that an answer accepts; none where it refuses
 abbrev pub rowsOf : Answer (List Row) → List Row
@@ -39,10 +37,3 @@ abbrev pub InList : ℕ → Side → Type 0
 InList len Absent = Unit {0}
 InList len (Part at n) = at + n ≤ len
 InList len Head = ⊥
-
--- the texts of a row stand within so many bytes, and its numbers can be written
-pub record RowWithin (len : ℕ) (row : RowPlace) : Type 0 where
-  pub source-within : row .«src_at» + row .«src_len» ≤ len
-  pub destination-within : InList len (row .dst)
-  pub spec-small : row .spec ≤ largestNumber
-  pub kind-small : row .kind ≤ 1

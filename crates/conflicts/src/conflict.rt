@@ -1,61 +1,98 @@
-// The conflict on one destination, if two rows put different sources on it: measured and written.
+// The conflict of a run, the rows of one destination, if two of them have different sources: measured and written.
 ghost use mathlib.Core.Path.{_≡_};
-ghost use Prim.Native.Nat.{_+_, _≤_};
+ghost use Prim.Native.Nat.{_+_, _*_, _≤_, _<_};
 ghost use lib.ListN.{length};
 ghost use Rattle.text.specs.Splice.{splice};
-ghost use Rattle.parse.specs.Places.{partAt};
-ghost use Rattle.conflicts.specs.Listed.{rowsIn, RowsRead, conflictPart};
-ghost use Rattle.conflicts.specs.FirstSeen.{sourcesOn, listedBytes};
+ghost use Rattle.meaning.specs.Number.{textBytes};
+ghost use Rattle.conflicts.specs.Indexed.{destinationAt, OneRun, runBytes, headAt, listedAt};
 use super::sources::put_sources;
 use super::sources::put_text;
-use super::sources::sources;
+use super::sources::sources_size;
+use super::sources::wide;
+use order::fields::fields;
+use order::key::Key;
+use order::run::keep_firsts;
 
-// How many bytes the conflict on the destination at a place takes; 0 where there is none.
-pub(crate) fn conflict_size(rows: &[u8], specs: usize, at: usize, len: usize) -> usize
-    requires { ⌜ RowsRead specs (now rows) × (at + len ≤ length (now rows)) ⌝ }
-    ensures { λ r. ⌜ (r ≡ length (conflictPart (rowsIn specs (now (rows .entry))) (partAt (now (rows .entry)) at len))) × (r ≤ 2000000000000) ⌝ }
+// How many bytes the destination of the row at a place takes with its length.
+fn destination_size(rows: &[u8], p: usize) -> usize
+    requires { ⌜ length (now rows) ≤ 1048576 ⌝ }
+    ensures { λ r. ⌜ (r ≡ length (textBytes (destinationAt (now (rows .entry)) p))) × (r ≤ 1048579) ⌝ }
 {
-    let found = sources(rows, specs, at, len);
-    let count = found.count;
+    let row = fields(rows, p);
+    let len = row.dst_len;
+    number::size(len) + len
+}
+
+// Writes the destination of the row at a place with its length, and answers the place after it.
+fn put_destination(out: &mut [u8], to: usize, rows: &[u8], p: usize) -> usize
+    requires { ⌜ (length (now rows) ≤ 1048576) × (to + length (textBytes (destinationAt (now rows) p)) ≤ length (now out)) ⌝ }
+    ensures { λ r. ⌜ (now (out .exit) ≡ splice (now (out .entry)) to (textBytes (destinationAt (now (rows .entry)) p))) × (r ≡ to + length (textBytes (destinationAt (now (rows .entry)) p))) ⌝ }
+{
+    let row = fields(rows, p);
+    put_text(out, to, rows, row.dst_at, row.dst_len)
+}
+
+// How many bytes a destination takes with the rows at places, each of which has another source.
+fn listed_size(rows: &[u8], firsts: &[u32]) -> usize
+    requires { ⌜ (0 < length (now firsts)) × (length (now rows) ≤ 1048576) × (length (now firsts) ≤ 1048576) ⌝ }
+    ensures { λ r. ⌜ (r ≡ length (listedAt (now (rows .entry)) (now (firsts .entry)))) × (r ≤ 2000000000000) ⌝ }
+{
+    let count = firsts.len();
+    let head = destination_size(rows, wide(firsts[0]));
+    head + number::size(count) + sources_size(rows, firsts)
+}
+
+// Writes the destination of the rows at places and how many they are, and answers the place after them.
+fn put_head(out: &mut [u8], to: usize, rows: &[u8], firsts: &[u32]) -> usize
+    requires { ⌜ (0 < length (now firsts)) × (length (now rows) ≤ 1048576) × (length (now firsts) ≤ 1048576) × (to + length (headAt (now rows) (now firsts)) ≤ length (now out)) ⌝ }
+    ensures { λ r. ⌜ (now (out .exit) ≡ splice (now (out .entry)) to (headAt (now (rows .entry)) (now (firsts .entry)))) × (r ≡ to + length (headAt (now (rows .entry)) (now (firsts .entry)))) ⌝ }
+{
+    let count = firsts.len();
+    let i = put_destination(out, to, rows, wide(firsts[0]));
+    number::put(out, i, count)
+}
+
+// Writes a destination with the rows at places: itself, how many, and their sources. Answers the place after them.
+fn put_listed(out: &mut [u8], to: usize, rows: &[u8], firsts: &[u32]) -> usize
+    requires { ⌜ (0 < length (now firsts)) × (length (now rows) ≤ 1048576) × (length (now firsts) ≤ 1048576) × (to + length (listedAt (now rows) (now firsts)) ≤ length (now out)) ⌝ }
+    ensures { λ r. ⌜ (now (out .exit) ≡ splice (now (out .entry)) to (listedAt (now (rows .entry)) (now (firsts .entry)))) × (r ≡ to + length (listedAt (now (rows .entry)) (now (firsts .entry)))) ⌝ }
+{
+    let i = put_head(out, to, rows, firsts);
+    put_sources(out, i, rows, firsts)
+}
+
+// How many bytes the conflict of a run takes; 0 where all its rows have one source.
+pub(crate) fn run_size(rows: &[u8], run: &mut [u32], scratch: &mut [u32]) -> usize
+    requires { ⌜ OneRun (now rows) (now run) × (0 < length (now run)) × (length (now rows) ≤ 1048576) × (length (now run) ≤ 1048576) × (length (now run) ≤ 2 * length (now scratch) + 1) ⌝ }
+    ensures { λ r. ⌜ (r ≡ length (runBytes (now (rows .entry)) (now (run .entry)))) × (r ≤ 2000000000000) ⌝ }
+{
+    if run.len() < 2 {
+        return 0;
+    }
+    let count = keep_firsts(rows, Key::Source, run, scratch);
     if count < 2 {
         return 0;
     }
-    number::size(len) + len + number::size(count) + found.size
+    listed_size(rows, &run[..count])
 }
 
-// Writes a destination with so many sources: itself, how many, and the sources. Answers the place after them.
-fn put_listed(
+// Writes the conflict of a run, if its rows have different sources, and answers the place after it.
+pub(crate) fn put_run(
     out: &mut [u8],
-    end: usize,
+    to: usize,
     rows: &[u8],
-    specs: usize,
-    at: usize,
-    len: usize,
-    count: usize,
+    run: &mut [u32],
+    scratch: &mut [u32],
 ) -> usize
-    requires { ⌜ RowsRead specs (now rows) × (at + len ≤ length (now rows)) × (count ≡ length (sourcesOn (rowsIn specs (now rows)) (partAt (now rows) at len))) × (count ≤ 1048576) × (end + length (listedBytes (rowsIn specs (now rows)) (partAt (now rows) at len)) ≤ length (now out)) ⌝ }
-    ensures { λ r. ⌜ (now (out .exit) ≡ splice (now (out .entry)) end (listedBytes (rowsIn specs (now (rows .entry))) (partAt (now (rows .entry)) at len))) × (r ≡ end + length (listedBytes (rowsIn specs (now (rows .entry))) (partAt (now (rows .entry)) at len))) ⌝ }
+    requires { ⌜ OneRun (now rows) (now run) × (0 < length (now run)) × (length (now rows) ≤ 1048576) × (length (now run) ≤ 1048576) × (length (now run) ≤ 2 * length (now scratch) + 1) × (to + length (runBytes (now rows) (now run)) ≤ length (now out)) ⌝ }
+    ensures { λ r. ⌜ (now (out .exit) ≡ splice (now (out .entry)) to (runBytes (now (rows .entry)) (now (run .entry)))) × (r ≡ to + length (runBytes (now (rows .entry)) (now (run .entry)))) ⌝ }
 {
-    let i = put_text(out, end, rows, at, len);
-    let j = number::put(out, i, count);
-    put_sources(out, j, rows, specs, at, len)
-}
-
-// Writes the conflict on the destination at a place, if there is one, and answers the place after it.
-pub(crate) fn put_conflict(
-    out: &mut [u8],
-    end: usize,
-    rows: &[u8],
-    specs: usize,
-    at: usize,
-    len: usize,
-) -> usize
-    requires { ⌜ RowsRead specs (now rows) × (at + len ≤ length (now rows)) × (end + length (conflictPart (rowsIn specs (now rows)) (partAt (now rows) at len)) ≤ length (now out)) ⌝ }
-    ensures { λ r. ⌜ (now (out .exit) ≡ splice (now (out .entry)) end (conflictPart (rowsIn specs (now (rows .entry))) (partAt (now (rows .entry)) at len))) × (r ≡ end + length (conflictPart (rowsIn specs (now (rows .entry))) (partAt (now (rows .entry)) at len))) ⌝ }
-{
-    let found = sources(rows, specs, at, len);
-    if found.count < 2 {
-        return end;
+    if run.len() < 2 {
+        return to;
     }
-    put_listed(out, end, rows, specs, at, len, found.count)
+    let n = keep_firsts(rows, Key::Source, run, scratch);
+    if n < 2 {
+        return to;
+    }
+    put_listed(out, to, rows, &run[..n])
 }

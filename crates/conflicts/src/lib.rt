@@ -1,5 +1,5 @@
 //! The conflicts of a row list that was read: destinations on which two rows put different sources. Measured, then written. Port of the
-//! crate's match_group/validate.rs.
+//! crate's match_group/validate.rs, whose map in order becomes an index of places, sorted by destination.
 ghost use mathlib.Core.Path.{_≡_};
 ghost use Prim.Native.Nat.{_≤_};
 ghost use lib.ListN.{length};
@@ -7,33 +7,34 @@ ghost use Rattle.text.specs.Splice.{splice};
 ghost use Rattle.conflicts.specs.Listed.{rowsIn, RowsRead, conflictsBytes};
 
 mod conflict;
-mod destination;
-mod seen;
+mod index;
+mod rooms;
 mod sources;
 
-use conflict::conflict_size;
-use conflict::put_conflict;
-use destination::Destination;
-use destination::next_destination;
+use rooms::few_size;
+use rooms::many_size;
+use rooms::put_few;
+use rooms::put_many;
+use rooms::put_some;
+use rooms::some_size;
+
+// The bytes of row lists that a small and a larger index have room for: a row takes five bytes at least.
+const FEW_BYTES: usize = 20480;
+
+const SOME_BYTES: usize = 163840;
 
 // How many bytes the conflicts of a row list take; 0 where there is none.
 pub fn conflicts_size(rows: &[u8], specs: usize) -> usize
     requires { ⌜ RowsRead specs (now rows) ⌝ }
     ensures { λ r. ⌜ r ≡ length (conflictsBytes (rowsIn specs (now (rows .entry)))) ⌝ }
 {
-    let mut size = 0;
-    let mut last = Destination::Nothing;
-    loop {
-        match next_destination(rows, specs, last) {
-            Destination::At { at, len } => {
-                size += conflict_size(rows, specs, at, len);
-                last = Destination::At { at, len };
-            }
-            Destination::Nothing => {
-                return size;
-            }
-        }
+    if rows.len() <= FEW_BYTES {
+        return few_size(rows, specs);
     }
+    if rows.len() <= SOME_BYTES {
+        return some_size(rows, specs);
+    }
+    many_size(rows, specs)
 }
 
 // Writes the conflicts of a row list at the start of a buffer.
@@ -41,17 +42,13 @@ pub fn put_conflicts(out: &mut [u8], rows: &[u8], specs: usize)
     requires { ⌜ RowsRead specs (now rows) × (length (conflictsBytes (rowsIn specs (now rows))) ≤ length (now out)) ⌝ }
     ensures { λ _. ⌜ now (out .exit) ≡ splice (now (out .entry)) 0 (conflictsBytes (rowsIn specs (now (rows .entry)))) ⌝ }
 {
-    let mut end = 0;
-    let mut last = Destination::Nothing;
-    loop {
-        match next_destination(rows, specs, last) {
-            Destination::At { at, len } => {
-                end = put_conflict(out, end, rows, specs, at, len);
-                last = Destination::At { at, len };
-            }
-            Destination::Nothing => {
-                return;
-            }
-        }
+    if rows.len() <= FEW_BYTES {
+        put_few(out, rows, specs);
+        return;
     }
+    if rows.len() <= SOME_BYTES {
+        put_some(out, rows, specs);
+        return;
+    }
+    put_many(out, rows, specs);
 }

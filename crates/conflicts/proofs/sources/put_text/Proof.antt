@@ -1,11 +1,12 @@
--- `conflicts::sources::put_text` meets its contract: the number, then the bytes.
-use Rattle.conflicts.proofs.Pieces.{text-small, text-number-room, text-bytes-room, text-written, text-after}
+-- `conflicts::sources::put_text` meets its contract: the length, then the bytes.
+use Rattle.conflicts.proofs.Pieces.{text-number-room, text-bytes-room, text-written, text-after}
 use borrow.Author.Needs.{needs}
 use Rattle.conflicts.proofs.sources.put_text.Statement.{statement}
 use Rattle.conflicts.proofs.sources.put_text.Tie as tie
+use Rattle.text.proofs.put.Reads as put-reads′
 
 put-requires : tie.Need-put-requires
-put-requires c κs = (search text-small, search text-number-room)
+put-requires c κs = (search needs, search text-number-room)
 
 add-end : tie.Need-add-end
 add-end c = search needs

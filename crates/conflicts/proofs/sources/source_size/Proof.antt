@@ -4,6 +4,9 @@ use borrow.Author.Needs.{needs}
 use Rattle.conflicts.proofs.sources.source_size.Statement.{statement}
 use Rattle.conflicts.proofs.sources.source_size.Tie as tie
 
+fields-requires : tie.Need-fields-requires
+fields-requires c κs = search needs
+
 size-requires : tie.Need-size-requires
 size-requires c κs = search needs
 
@@ -29,6 +32,7 @@ pub source-size-spec : {M : Type 1} → statement M
 source-size-spec =
     tie.close
     (tie.spec
+    fields-requires
     size-requires
     size-requires-2
     add-numbers

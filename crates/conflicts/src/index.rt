@@ -1,0 +1,146 @@
+// The index of a row list: the places of its rows that have a destination, sorted by it, so that rows of one destination are a run.
+ghost use mathlib.Core.Path.{_≡_};
+ghost use Prim.Native.Nat.{_+_, _*_, _≤_, _<_};
+ghost use lib.ListN.{length, take, set};
+ghost use Rattle.text.specs.Splice.{splice};
+ghost use Rattle.conflicts.specs.Listed.{rowsIn, RowsRead, conflictsBytes, InList};
+ghost use Rattle.conflicts.specs.Indexed.{Indexed, SortedIndex, Stored};
+use super::conflict::put_run;
+use super::conflict::run_size;
+use list::cursor::Cursor;
+use list::rows::RowStep;
+use list::rows::next_row;
+use order::key::Key;
+use order::run::run_end;
+use order::sort::sort;
+use parse::types::Side;
+
+// A place of a row list as it stands in an index.
+fn narrow(at: usize) -> u32
+    requires { ⌜ at ≤ 1048576 ⌝ }
+    ensures { λ r. ⌜ r ≡ at ⌝ }
+{
+    at as u32
+}
+
+// Stores a place after n others, and answers how many there are.
+fn push(index: &mut [u32], n: usize, at: usize) -> usize
+    requires { ⌜ (n < length (now index)) × (at ≤ 1048576) ⌝ }
+    ensures { λ r. ⌜ (now (index .exit) ≡ set (now (index .entry)) n at) × (r ≡ n + 1) ⌝ }
+{
+    index[n] = narrow(at);
+    n + 1
+}
+
+// Stores the place of a row after n others, if the row has a destination, and answers how many there are.
+fn store(index: &mut [u32], n: usize, at: usize, dst: Side) -> usize
+    requires { ⌜ (n < length (now index)) × (at ≤ 1048576) × InList 1048576 dst ⌝ }
+    ensures { λ r. ⌜ Stored (now (index .entry)) n at dst (now (index .exit)) r ⌝ }
+{
+    match dst {
+        Side::Absent => n,
+        Side::Part(_, _) => push(index, n, at),
+        Side::Head => n,
+    }
+}
+
+// Stores the places of all rows that have a destination, and answers how many there are.
+fn fill(rows: &[u8], specs: usize, index: &mut [u32]) -> usize
+    requires { ⌜ RowsRead specs (now rows) × (length (now rows) ≤ 5 * length (now index)) ⌝ }
+    ensures { λ r. ⌜ Indexed specs (now (rows .entry)) (take r (now (index .exit))) × (r ≤ length (now (index .entry))) ⌝ }
+{
+    let mut n = 0;
+    let mut c = Cursor::new();
+    loop {
+        let at = c.at;
+        match next_row(c, rows, specs) {
+            RowStep::Row { row, next } => {
+                let dst = row.dst;
+                n = store(index, n, at, dst);
+                c = next;
+            }
+            RowStep::End => {
+                return n;
+            }
+            RowStep::Refused(_) => {
+                return n;
+            }
+        }
+    }
+}
+
+// How many bytes the conflicts of a sorted index take, run by run.
+fn sorted_size(rows: &[u8], specs: usize, index: &mut [u32], scratch: &mut [u32]) -> usize
+    requires { ⌜ RowsRead specs (now rows) × SortedIndex specs (now rows) (now index) × (length (now index) ≤ 1048576) × (length (now index) ≤ 2 * length (now scratch) + 1) ⌝ }
+    ensures { λ r. ⌜ r ≡ length (conflictsBytes (rowsIn specs (now (rows .entry)))) ⌝ }
+{
+    let mut size = 0;
+    let mut i = 0;
+    while i < index.len() {
+        let end = run_end(rows, Key::Destination, index, i);
+        size += run_size(rows, &mut index[i..end], scratch);
+        i = end;
+    }
+    size
+}
+
+// Writes the conflicts of a sorted index at the start of a buffer, run by run.
+fn put_sorted(out: &mut [u8], rows: &[u8], specs: usize, index: &mut [u32], scratch: &mut [u32])
+    requires { ⌜ RowsRead specs (now rows) × SortedIndex specs (now rows) (now index) × (length (now index) ≤ 1048576) × (length (now index) ≤ 2 * length (now scratch) + 1) × (length (conflictsBytes (rowsIn specs (now rows))) ≤ length (now out)) ⌝ }
+    ensures { λ _. ⌜ now (out .exit) ≡ splice (now (out .entry)) 0 (conflictsBytes (rowsIn specs (now (rows .entry)))) ⌝ }
+{
+    let mut to = 0;
+    let mut i = 0;
+    while i < index.len() {
+        let end = run_end(rows, Key::Destination, index, i);
+        to = put_run(out, to, rows, &mut index[i..end], scratch);
+        i = end;
+    }
+}
+
+// Sorts the places of a row list, and measures its conflicts.
+fn filled_size(rows: &[u8], specs: usize, index: &mut [u32], scratch: &mut [u32]) -> usize
+    requires { ⌜ RowsRead specs (now rows) × Indexed specs (now rows) (now index) × (length (now index) ≤ 1048576) × (length (now index) ≤ 2 * length (now scratch) + 1) ⌝ }
+    ensures { λ r. ⌜ r ≡ length (conflictsBytes (rowsIn specs (now (rows .entry)))) ⌝ }
+{
+    sort(rows, Key::Destination, index, scratch);
+    sorted_size(rows, specs, index, scratch)
+}
+
+// Sorts the places of a row list, and writes its conflicts at the start of a buffer.
+fn put_filled(out: &mut [u8], rows: &[u8], specs: usize, index: &mut [u32], scratch: &mut [u32])
+    requires { ⌜ RowsRead specs (now rows) × Indexed specs (now rows) (now index) × (length (now index) ≤ 1048576) × (length (now index) ≤ 2 * length (now scratch) + 1) × (length (conflictsBytes (rowsIn specs (now rows))) ≤ length (now out)) ⌝ }
+    ensures { λ _. ⌜ now (out .exit) ≡ splice (now (out .entry)) 0 (conflictsBytes (rowsIn specs (now (rows .entry)))) ⌝ }
+{
+    sort(rows, Key::Destination, index, scratch);
+    put_sorted(out, rows, specs, index, scratch);
+}
+
+// How many bytes the conflicts of a row list take, whose places an index has room for.
+pub(crate) fn indexed_size(
+    rows: &[u8],
+    specs: usize,
+    index: &mut [u32],
+    scratch: &mut [u32],
+) -> usize
+    requires { ⌜ RowsRead specs (now rows) × (length (now rows) ≤ 5 * length (now index)) × (length (now index) ≤ 1048576) × (length (now index) ≤ 2 * length (now scratch) + 1) ⌝ }
+    ensures { λ r. ⌜ r ≡ length (conflictsBytes (rowsIn specs (now (rows .entry)))) ⌝ }
+{
+    let n = fill(rows, specs, index);
+    filled_size(rows, specs, &mut index[..n], scratch)
+}
+
+// Writes the conflicts of a row list, whose places an index has room for, at the start of a buffer.
+pub(crate) fn put_indexed(
+    out: &mut [u8],
+    rows: &[u8],
+    specs: usize,
+    index: &mut [u32],
+    scratch: &mut [u32],
+)
+    requires { ⌜ RowsRead specs (now rows) × (length (now rows) ≤ 5 * length (now index)) × (length (now index) ≤ 1048576) × (length (now index) ≤ 2 * length (now scratch) + 1) × (length (conflictsBytes (rowsIn specs (now rows))) ≤ length (now out)) ⌝ }
+    ensures { λ _. ⌜ now (out .exit) ≡ splice (now (out .entry)) 0 (conflictsBytes (rowsIn specs (now (rows .entry)))) ⌝ }
+{
+    let n = fill(rows, specs, index);
+    put_filled(out, rows, specs, &mut index[..n], scratch);
+}
