@@ -19,7 +19,7 @@ use Rattle.text.proofs.Rests.{rest-cons}
 abbrev pub Bytes : Text → Type 0
 Bytes s = (i : ℕ) → Fits w8 (getD s i 0)
 
-bytes-tail : (x : ℕ) (s : Text) → Bytes (x ∷ s) → Bytes s
+pub bytes-tail : (x : ℕ) (s : Text) → Bytes (x ∷ s) → Bytes s
 bytes-tail x s h i = h (suc i)
 
 pub bytes-drop : (n : ℕ) (s : Text) → Bytes s → Bytes (drop n s)

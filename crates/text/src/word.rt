@@ -13,7 +13,7 @@ fn wide(b: u8) -> u64
 }
 
 // The number that four bytes of s make from i on, the first the highest.
-fn half(s: &[u8], i: usize) -> u64
+pub(crate) fn half(s: &[u8], i: usize) -> u64
     requires { ⌜ i + 4 ≤ length (now s) ⌝ }
     ensures { λ r. ⌜ (r ≡ number 0 4 (drop i (now (s .entry)))) × (r < 4294967296) ⌝ }
 {
@@ -25,7 +25,7 @@ fn half(s: &[u8], i: usize) -> u64
 }
 
 // The number that eight bytes make.
-fn word(s: &[u8], i: usize) -> u64
+pub(crate) fn word(s: &[u8], i: usize) -> u64
     requires { ⌜ i + 8 ≤ length (now s) ⌝ }
     ensures { λ r. ⌜ r ≡ number 0 8 (drop i (now (s .entry))) ⌝ }
 {
