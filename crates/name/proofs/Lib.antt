@@ -1,6 +1,9 @@
--- `Parts`: the parts of a text by the places of its slashes. `Stars`: to read the stars as the letter a changes no answer but rule 5's.
--- `Bytes`: the rules of bytes and of pairs. `Names`: the rules in the order of the code.
+-- `Tails`: rules on each byte and on what comes after it. `Parts`: the rule on parts as such a rule. `Names`: the manual's rules are the
+-- rules that one look decides. `Stars`: to read the stars as the letter a changes none of these. `After`: what may follow a byte, as the
+-- code asks it. `Standing`: how far the bytes of a text stand, and what the text is by that.
+pub mod Tails
 pub mod Parts
-pub mod Stars
-pub mod Bytes
 pub mod Names
+pub mod Stars
+pub mod After
+pub mod Standing

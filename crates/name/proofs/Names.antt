@@ -1,108 +1,112 @@
--- The rules in the order of the code. Assumes nothing.
+-- The manual's rules are the rules that one look at the bytes decides. Assumes nothing.
 use mathlib.Core.Path.{_≡_, refl, sym, ap, _∙_}
-use mathlib.Core.Bool.{Bool, true, false, not, false≢true}
+use mathlib.Core.Bool.{Bool, true, false, not, cond}
 use mathlib.Core.List.{[], _∷_}
 use Prim.Native.Nat.{ℕ}
-use native.Mathlib.Omega.{arith}
 use borrow.Author.Tests.{eqb-true}
 use lib.Dec.{eqb}
-use lib.ListN.{length}
-use Rattle.meaning.specs.Bytes.{Text, bytes, star, slash, _and_, _or_, every, empty, begins, ends, holds, hasByte}
-use Rattle.meaning.specs.Names.{partsPass, noTwoDots, noControls, ruleFiveByte, noGlobs, slashesPass, noLastDot, noAtBrace, notAt, noBackslash, namePasses, starAsLetter, sidePasses}
-use Rattle.name.specs.Rules.{standAfter}
-use Rattle.name.proofs.Stars.{read-begins, read-ends, read-holds, read-empty, read-partsPass, read-noTwoDots, read-noLastDot, read-noAtBrace, read-notAt, read-none}
-use Rattle.name.proofs.Bytes.{name-bytes, pattern-bytes, stand-first}
+use Rattle.meaning.specs.Bytes.{Text, bytes, _and_, empty, same, begins, ends, holds}
+use Rattle.meaning.specs.Names.{noTwoDots, ruleFourByte, noControls, ruleFiveByte, noGlobs, slashesPass, noLastDot, noAtBrace, notAt, noBackslash, namePasses}
+use Rattle.text.proofs.Rows.{and-true}
+use Rattle.name.specs.Rules.{nameByte, restOfLock, afterDot, afterSlash, afterAt, stands}
+use Rattle.name.proofs.Tails.{tails, join, alike, every-tails, lacks-tails, holds-tails, ends-tails}
+use Rattle.name.proofs.Parts.{partRule, parts-tails}
 
--- the rules as the manual orders them, and as the code does
-regroup : (d c g f z j l a n b : Bool) → d and c and g and (f and z and j) and l and a and n and b ≡ ((c and g and b) and d and (f and j) and a) and (z and l and n)
-regroup false false g f z j l a n b = refl
-regroup false true false f z j l a n b = refl
-regroup false true true f z j l a n false = refl
-regroup false true true f z j l a n true = refl
-regroup true false g f z j l a n b = refl
-regroup true true false f z j l a n b = refl
-regroup true true true false z j l a n false = refl
-regroup true true true false z j l a n true = refl
-regroup true true true true false j l a n false = refl
-regroup true true true true false false l a n true = refl
-regroup true true true true false true l false n true = refl
-regroup true true true true false true l true n true = refl
-regroup true true true true true false l a n false = refl
-regroup true true true true true false l a n true = refl
-regroup true true true true true true false a n false = refl
-regroup true true true true true true false false n true = refl
-regroup true true true true true true false true n true = refl
-regroup true true true true true true true false n false = refl
-regroup true true true true true true true false n true = refl
-regroup true true true true true true true true false false = refl
-regroup true true true true true true true true false true = refl
-regroup true true true true true true true true true false = refl
-regroup true true true true true true true true true true = refl
+-- the rules as the manual orders them, and with those of the text's beginning before those of every byte
+regroup : (e h p d c g f z j l a n b : Bool)
+    → (e and ((h and p) and (d and (c and (g and ((f and (z and j)) and (l and (a and (n and b)))))))))
+    ≡ (((e and (f and h)) and n) and (p and (d and (c and (g and (z and (j and (l and (a and b)))))))))
+regroup false h p d c g f z j l a n b = refl
+regroup true false p d c g false z j l a n b = refl
+regroup true false p d c g true z j l a n b = refl
+regroup true true false d c g false z j l a n b = refl
+regroup true true false d c g true z j l a false b = refl
+regroup true true false d c g true z j l a true b = refl
+regroup true true true false c g false z j l a n b = refl
+regroup true true true true false g false z j l a n b = refl
+regroup true true true true true false false z j l a n b = refl
+regroup true true true true true true false z j l a n b = refl
+regroup true true true false c g true z j l a false b = refl
+regroup true true true true false g true z j l a false b = refl
+regroup true true true true true false true z j l a false b = refl
+regroup true true true true true true true false j l a false b = refl
+regroup true true true true true true true true false l a false b = refl
+regroup true true true true true true true true true false a false b = refl
+regroup true true true true true true true true true true false false b = refl
+regroup true true true true true true true true true true true false b = refl
+regroup true true true false c g true z j l a true b = refl
+regroup true true true true false g true z j l a true b = refl
+regroup true true true true true false true z j l a true b = refl
+regroup true true true true true true true false j l a true b = refl
+regroup true true true true true true true true j l a true b = refl
 
--- the rules that the code asks of a side, in its order
-abbrev sideRow : Text → Bool
-sideRow s = not (empty s) and partsPass s and standAfter slash s and (not (ends (bytes "/") s) and noLastDot s and notAt s)
+-- the rules of every byte, in the manual's order
+abbrev rules : ℕ → Text → Bool
+rules x s =
+    partRule x s and (not (begins (bytes "..") (x ∷ s)) and (ruleFourByte x and (ruleFiveByte x and (not (same (bytes "/") (x ∷ s)) and (not (begins (bytes "//") (x ∷ s)) and (not (same (bytes ".") (x ∷ s)) and (not (begins (bytes "@{") (x ∷ s)) and not (eqb 92 x))))))))
 
-pub side-row : (s : Text) → sidePasses s ≡ sideRow s
-unfolding sidePasses namePasses slashesPass
-side-row s =
-    let t = starAsLetter s in
-    rw (
-      regroup (noTwoDots t) (noControls t) (noGlobs t) (not (begins (bytes "/") t)) (not (ends (bytes "/") t)) (not (holds (bytes "//") t)) (noLastDot t) (noAtBrace t) (notAt t) (noBackslash t),
-      name-bytes t,
-      pattern-bytes s,
-      read-empty s,
-      read-partsPass s,
-      read-noTwoDots s,
-      read-noLastDot s,
-      read-noAtBrace s,
-      read-notAt s,
-      read-begins (bytes "/") s tt,
-      read-ends (bytes "/") s tt,
-      read-holds (bytes "//") s tt,
-      stand-first s,
-    )
+same-none : (s : Text) → same [] s ≡ empty s
+same-none [] = refl
+same-none (x ∷ s) = refl
 
--- a text that is not empty, as the code asks it
-pub fail-empty : (s : Text) (b : Bool) → length s ≡ 0 → false ≡ (not (empty s) and b)
-fail-empty [] b e = refl
-fail-empty (x ∷ s) b e = absurd (omega arith)
+dot-row : (k d e : Bool) → (not k and (not d and (not e and true))) ≡ (not e and (not d and not k))
+dot-row true true true = refl
+dot-row true true false = refl
+dot-row true false true = refl
+dot-row true false false = refl
+dot-row false true true = refl
+dot-row false true false = refl
+dot-row false false true = refl
+dot-row false false false = refl
 
-pub pass-empty : (s : Text) (b x : Bool) → (length s ≡ 0 → ⊥) → x ≡ b → x ≡ (not (empty s) and b)
-pass-empty [] b x n h = absurd (n refl)
-pass-empty (y ∷ s) b x n h = h
+slash-row : (d e f : Bool) → ((not d and true) and (not e and (not f and true))) ≡ (not e and (not f and not d))
+slash-row true true f = refl
+slash-row true false true = refl
+slash-row true false false = refl
+slash-row false true f = refl
+slash-row false false true = refl
+slash-row false false false = refl
 
--- a name has no star
+-- they decide at a dot, a slash, an `@` and any other byte as one look does
+module _ (s : Text) where
+  rules-dot : rules 46 s ≡ afterDot s
+  unfolding afterDot ruleFourByte ruleFiveByte
+  rules-dot = rw (same-none s) (dot-row (restOfLock s) (begins (bytes ".") s) (empty s))
 
-star-fails : (x : ℕ) → star ≡ x → ruleFiveByte x ≡ false
-unfolding ruleFiveByte
-star-fails x q = rw (sym q)
+  rules-slash : rules 47 s ≡ afterSlash s
+  unfolding afterSlash ruleFourByte ruleFiveByte
+  rules-slash = rw (same-none s) (slash-row (begins (bytes ".") s) (empty s) (begins (bytes "/") s))
 
-later : (b c : Bool) → c ≡ false → (b and c) ≡ false
-later true c q = q
-later false c q = refl
+  rules-at : rules 64 s ≡ afterAt s
+  unfolding afterAt ruleFourByte ruleFiveByte
+  rules-at = and-true (not (begins (bytes "{") s))
 
-star-globs : (s : Text) → hasByte star s ≡ true → noGlobs s ≡ false
-unfolding noGlobs
-star-globs [] e = absurd (false≢true e)
-star-globs (x ∷ s) e = go (eqb star x) refl (star-globs s) e
-  where
-    go : (b : Bool) → eqb star x ≡ b → (hasByte star s ≡ true → every ruleFiveByte s ≡ false) → (b or hasByte star s) ≡ true → (ruleFiveByte x and every ruleFiveByte s) ≡ false
-    go true q r e = rw (star-fails x (eqb-true star x q))
-    go false q r e = later (ruleFiveByte x) (every ruleFiveByte s) (r e)
+  rules-stand : (x : ℕ) → rules x s ≡ stands x s
+  unfolding stands nameByte
+  rules-stand x = go (eqb 46 x) (eqb 47 x) (eqb 64 x) refl refl refl
+    where
+      go : (a b c : Bool) → eqb 46 x ≡ a → eqb 47 x ≡ b → eqb 64 x ≡ c → rules x s ≡ cond a (afterDot s) (cond b (afterSlash s) (cond c (afterAt s) (nameByte x)))
+      go true b c d e f = ap (λ (k : ℕ). rules k s) (sym (eqb-true 46 x d)) ∙ rules-dot
+      go false true c d e f = ap (λ (k : ℕ). rules k s) (sym (eqb-true 47 x e)) ∙ rules-slash
+      go false false true d e f = ap (λ (k : ℕ). rules k s) (sym (eqb-true 64 x f)) ∙ rules-at
+      go false false false d e f = rw (d, e, f)
 
--- a row of rules fails with its fifth
-fifth : (a b c d e r : Bool) → e ≡ false → false ≡ (a and b and c and d and e and r)
-fifth false b c d e r q = refl
-fifth true false c d e r q = refl
-fifth true true false d e r q = refl
-fifth true true true false e r q = refl
-fifth true true true true e r q = rw q
+rules-tails : (s : Text) → (tails partRule s and (noTwoDots s and (noControls s and (noGlobs s and (not (ends (bytes "/") s) and (not (holds (bytes "//") s) and (noLastDot s and (noAtBrace s and noBackslash s)))))))) ≡ tails rules s
+unfolding noTwoDots noControls noGlobs noLastDot noAtBrace noBackslash
+rules-tails s =
+    join _ _ _ _ s refl
+    (join _ _ _ _ s (holds-tails 46 (46 ∷ []) s)
+    (join _ _ _ _ s (every-tails ruleFourByte s)
+    (join _ _ _ _ s (every-tails ruleFiveByte s)
+    (join _ _ _ _ s (ends-tails 47 [] s)
+    (join _ _ _ _ s (holds-tails 47 (47 ∷ []) s)
+    (join _ _ _ _ s (ends-tails 46 [] s)
+    (join _ _ _ _ s (holds-tails 64 (123 ∷ []) s) (lacks-tails 92 s))))))))
 
-pub name-starred : (s : Text) (r : Bool) → r ≡ hasByte star s → r ≡ true → false ≡ namePasses s
-unfolding namePasses
-name-starred s r e t = fifth (not (empty s)) (partsPass s) (noTwoDots s) (noControls s) (noGlobs s) _ (star-globs s (sym e ∙ t))
-
-pub name-as-pattern : (s : Text) (r x : Bool) → r ≡ hasByte star s → r ≡ false → x ≡ sidePasses s → x ≡ namePasses s
-unfolding sidePasses
-name-as-pattern s r x e f h = h ∙ ap namePasses (read-none s (sym e ∙ f))
+-- a name passes if it opens well and all its bytes stand
+pub name-row : (s : Text) → namePasses s ≡ ((afterSlash s and notAt s) and tails stands s)
+unfolding namePasses slashesPass afterSlash
+name-row s =
+    rw (parts-tails s)
+    (regroup (not (empty s)) (not (begins (bytes ".") s)) (tails partRule s) (noTwoDots s) (noControls s) (noGlobs s) (not (begins (bytes "/") s)) (not (ends (bytes "/") s)) (not (holds (bytes "//") s)) (noLastDot s) (noAtBrace s) (notAt s) (noBackslash s)
+    ∙ ap (λ (b : Bool). ((not (empty s) and (not (begins (bytes "/") s) and not (begins (bytes ".") s))) and notAt s) and b) (rules-tails s ∙ alike rules stands (λ x t. rules-stand t x) s))

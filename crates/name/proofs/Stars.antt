@@ -1,13 +1,16 @@
--- To read the stars of a text as the letter a changes no answer about a text that has neither. Assumes nothing.
+-- To read the stars of a text as the letter a changes none of the rules but that no star stands. Assumes nothing.
 use mathlib.Core.Path.{_≡_, refl, sym, ap, ap₂, _∙_}
 use mathlib.Core.Bool.{Bool, true, false, not, cond, true≢false}
-use mathlib.Core.List.{List, [], _∷_, map}
+use mathlib.Core.List.{[], _∷_}
 use Prim.Native.Nat.{ℕ}
 use borrow.Author.Tests.{eqb-true}
 use lib.Dec.{T, eqb}
-use Rattle.meaning.specs.Bytes.{Text, bytes, star, slash, _and_, _or_, every, empty, same, begins, ends, holds, hasByte}
-use Rattle.meaning.specs.Names.{parts, partsNext, partPasses, partsPass, noTwoDots, noLastDot, noAtBrace, notAt, starAsLetter}
+use Rattle.meaning.specs.Bytes.{Text, bytes, star, _and_, _or_, every, empty, same, begins, hasByte}
+use Rattle.meaning.specs.Names.{ruleFourByte, ruleFiveByte, notAt, starAsLetter, sidePasses}
 use Rattle.text.proofs.Sames.{same-swap}
+use Rattle.name.specs.Rules.{nameByte, restOfLock, afterDot, afterSlash, afterAt, stands}
+use Rattle.name.proofs.Tails.{tails}
+use Rattle.name.proofs.Names.{name-row}
 
 -- neither a star nor an a
 abbrev avoids : ℕ → Bool
@@ -40,59 +43,57 @@ read-same [] (x ∷ s) t = refl
 read-same (a ∷ p) [] t = refl
 read-same (a ∷ p) (x ∷ s) t = ap₂ _and_ (read-byte a x (both-left (avoids a) (every avoids p) t)) (read-same p s (both-right (avoids a) (every avoids p) t))
 
-pub read-begins : (p s : Text) → T (every avoids p) → begins p (starAsLetter s) ≡ begins p s
+read-is : (s p : Text) → T (every avoids p) → same (starAsLetter s) p ≡ same s p
+read-is s p t = same-swap (starAsLetter s) p ∙ read-same p s t ∙ same-swap p s
+
+read-begins : (p s : Text) → T (every avoids p) → begins p (starAsLetter s) ≡ begins p s
 read-begins [] s t = refl
 read-begins (a ∷ p) [] t = refl
 read-begins (a ∷ p) (x ∷ s) t = ap₂ _and_ (read-byte a x (both-left (avoids a) (every avoids p) t)) (read-begins p s (both-right (avoids a) (every avoids p) t))
 
-pub read-ends : (p s : Text) → T (every avoids p) → ends p (starAsLetter s) ≡ ends p s
-read-ends p [] t = refl
-read-ends p (x ∷ s) t = ap₂ _or_ (read-same p (x ∷ s) t) (read-ends p s t)
-
-pub read-holds : (p s : Text) → T (every avoids p) → holds p (starAsLetter s) ≡ holds p s
-read-holds p [] t = refl
-read-holds p (x ∷ s) t = ap₂ _or_ (read-begins p (x ∷ s) t) (read-holds p s t)
-
-read-part : (p : Text) → partPasses (starAsLetter p) ≡ partPasses p
-unfolding partPasses
-read-part p = rw (read-begins (bytes ".") p tt, read-ends (bytes ".lock") p tt)
-
-read-next : (b : Bool) (x : ℕ) (ps : List Text) → partsNext b (cond (eqb star x) 97 x) (map starAsLetter ps) ≡ map starAsLetter (partsNext b x ps)
-read-next true x ps = refl
-read-next false x [] = refl
-read-next false x (p ∷ ps) = refl
-
-read-parts : (s : Text) → parts (starAsLetter s) ≡ map starAsLetter (parts s)
-read-parts [] = refl
-read-parts (x ∷ s) = rw (read-byte slash x tt, read-parts s) (read-next (eqb slash x) x (parts s))
-
-read-every : (ps : List Text) → every partPasses (map starAsLetter ps) ≡ every partPasses ps
-read-every [] = refl
-read-every (p ∷ ps) = ap₂ _and_ (read-part p) (read-every ps)
-
-pub read-empty : (s : Text) → empty (starAsLetter s) ≡ empty s
+read-empty : (s : Text) → empty (starAsLetter s) ≡ empty s
 read-empty [] = refl
 read-empty (x ∷ s) = refl
 
-pub read-partsPass : (s : Text) → partsPass (starAsLetter s) ≡ partsPass s
-unfolding partsPass
-read-partsPass s = rw (read-parts s) (read-every (parts s))
+-- so what may follow a byte is the same
+module _ (s : Text) where
+  read-dot : afterDot (starAsLetter s) ≡ afterDot s
+  unfolding afterDot restOfLock
+  read-dot = rw (read-empty s, read-begins (bytes ".") s tt, read-is s (bytes "lock") tt, read-begins (bytes "lock/") s tt)
 
-pub read-noTwoDots : (s : Text) → noTwoDots (starAsLetter s) ≡ noTwoDots s
-unfolding noTwoDots
-read-noTwoDots s = rw (read-holds (bytes "..") s tt)
+  read-slash : afterSlash (starAsLetter s) ≡ afterSlash s
+  unfolding afterSlash
+  read-slash = rw (read-empty s, read-begins (bytes "/") s tt, read-begins (bytes ".") s tt)
 
-pub read-noLastDot : (s : Text) → noLastDot (starAsLetter s) ≡ noLastDot s
-unfolding noLastDot
-read-noLastDot s = rw (read-ends (bytes ".") s tt)
+  read-at : afterAt (starAsLetter s) ≡ afterAt s
+  unfolding afterAt
+  read-at = rw (read-begins (bytes "{") s tt)
 
-pub read-noAtBrace : (s : Text) → noAtBrace (starAsLetter s) ≡ noAtBrace s
-unfolding noAtBrace
-read-noAtBrace s = rw (read-holds (bytes "@{") s tt)
+  read-notAt : notAt (starAsLetter s) ≡ notAt s
+  unfolding notAt
+  read-notAt = ap not (read-is s (bytes "@") tt)
 
-pub read-notAt : (s : Text) → notAt (starAsLetter s) ≡ notAt s
-unfolding notAt
-read-notAt s = ap not (same-swap (starAsLetter s) (bytes "@") ∙ read-same (bytes "@") s tt ∙ same-swap (bytes "@") s)
+  -- and a byte stands as before, or is a star
+  read-stands : (x : ℕ) → stands (cond (eqb star x) 97 x) (starAsLetter s) ≡ (eqb star x or stands x s)
+  unfolding stands nameByte ruleFourByte ruleFiveByte
+  read-stands x = go (eqb star x)
+    where
+      go : (b : Bool) → stands (cond b 97 x) (starAsLetter s) ≡ (b or stands x s)
+      go true = refl
+      go false = rw (read-dot, read-slash, read-at)
+
+-- a byte that stands, or a star
+abbrev pub starOrStands : ℕ → Text → Bool
+starOrStands x s = eqb star x or stands x s
+
+read-tails : (s : Text) → tails stands (starAsLetter s) ≡ tails starOrStands s
+read-tails [] = refl
+read-tails (x ∷ s) = ap₂ _and_ (read-stands s x) (read-tails s)
+
+-- a side passes if it opens well and its bytes stand, or are stars
+pub side-row : (s : Text) → sidePasses s ≡ ((afterSlash s and notAt s) and tails starOrStands s)
+unfolding sidePasses
+side-row s = rw (name-row (starAsLetter s), read-slash s, read-notAt s, read-tails s)
 
 -- a text with no star is read as it stands
 pub read-none : (s : Text) → hasByte star s ≡ false → starAsLetter s ≡ s

@@ -1,28 +1,56 @@
--- The rules that each byte obeys by itself and beside the byte before it, taken together.
-use mathlib.Core.Bool.{Bool, true, not}
+-- The rules as one look decides them, at each byte and at what comes after it.
+use mathlib.Core.Bool.{Bool, not, cond}
 use mathlib.Core.List.{[], _∷_}
-use Prim.Native.Nat.{ℕ}
-use lib.Dec.{eqb}
-use Rattle.meaning.specs.Bytes.{Text, bytes, star, _and_, _or_, begins}
-use Rattle.meaning.specs.Names.{ruleFourByte, ruleFiveByte}
+use Prim.Native.Nat.{ℕ, zero, suc}
+use lib.Dec.{eqb, leb}
+use Rattle.meaning.specs.Bytes.{Text, bytes, star, _and_, _or_, empty, same, begins, count}
+use Rattle.meaning.specs.Names.{ruleFourByte, ruleFiveByte, sidePasses}
+use Rattle.name.specs.declared.NameKind.{NameKind}
+use Rattle.name.specs.declared.NameKind.the-variants.{Name, Pattern, Neither}
 
 -- 4, 5 and 10: a byte that a name may have
 unfoldable pub nameByte : ℕ → Bool
 nameByte b = ruleFourByte b and ruleFiveByte b and not (eqb 92 b)
 
--- a byte that a pattern may have: the star, or one that a name may have
-unfoldable pub patternByte : ℕ → Bool
-patternByte b = eqb star b or nameByte b
+-- a small letter
+unfoldable pub letter : ℕ → Bool
+letter b = leb 97 b and leb b 122
 
--- 3, 6 and 8: two bytes that may follow each other, as `..`, `//` and `@{` may not
-unfoldable pub mayFollow : ℕ → ℕ → Bool
-mayFollow a b = not (begins (bytes "..") (a ∷ b ∷ [])) and not (begins (bytes "//") (a ∷ b ∷ [])) and not (begins (bytes "@{") (a ∷ b ∷ []))
+-- a digit
+unfoldable pub digit : ℕ → Bool
+digit b = leb 48 b and leb b 57
 
--- a byte that a pattern may have, and that may follow the one before it
-unfoldable pub stands : ℕ → ℕ → Bool
-stands a b = patternByte b and mayFollow a b
+-- 1: what makes a part end with `.lock`, after the dot
+unfoldable pub restOfLock : Text → Bool
+restOfLock s = same s (bytes "lock") or begins (bytes "lock/") s
 
--- and so for all bytes, the first after `a`
-abbrev pub standAfter : ℕ → Text → Bool
-standAfter a [] = true
-standAfter a (x ∷ s) = stands a x and standAfter x s
+-- 1, 3 and 7: what may follow a dot
+unfoldable pub afterDot : Text → Bool
+afterDot s = not (empty s) and not (begins (bytes ".") s) and not (restOfLock s)
+
+-- 1 and 6: what may follow a slash, and what a name may be, which begins as if after one
+unfoldable pub afterSlash : Text → Bool
+afterSlash s = not (empty s) and not (begins (bytes "/") s) and not (begins (bytes ".") s)
+
+-- 8: what may follow an `@`
+unfoldable pub afterAt : Text → Bool
+afterAt s = not (begins (bytes "{") s)
+
+-- a byte that a name may have, before a text that may follow it
+unfoldable pub stands : ℕ → Text → Bool
+stands x s = cond (eqb 46 x) (afterDot s) (cond (eqb 47 x) (afterSlash s) (cond (eqb 64 x) (afterAt s) (nameByte x)))
+
+-- how many bytes of a text stand, up to the first that does not
+abbrev pub standing : Text → ℕ
+standing [] = 0
+standing (x ∷ s) = cond (stands x s) (suc (standing s)) 0
+
+-- what a text that passes is by the number of its stars
+abbrev pub kindByStars : ℕ → NameKind
+kindByStars zero = Name
+kindByStars (suc zero) = Pattern
+kindByStars (suc (suc n)) = Neither
+
+-- what a text is by the rules: a name, a pattern with one star, or neither
+unfoldable pub kindOf : Text → NameKind
+kindOf s = cond (sidePasses s) (kindByStars (count star s)) Neither

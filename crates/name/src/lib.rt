@@ -1,9 +1,18 @@
-// The rules of git-check-ref-format with --allow-onelevel, rule by rule, as the manual numbers them.
+// The rules of git-check-ref-format with --allow-onelevel, as the manual numbers them: which bytes a name has, and what follows each.
 ghost use mathlib.Core.Path.{_≡_};
 ghost use mathlib.Core.Bool.{not};
-ghost use Rattle.meaning.specs.Bytes.{bytes, slash, _and_, ends};
-ghost use Rattle.meaning.specs.Names.{partPasses, partsPass, noLastDot, notAt, namePasses, sidePasses};
-ghost use Rattle.name.specs.Rules.{nameByte, patternByte, stands, standAfter};
+ghost use Prim.Native.Nat.{_+_, _<_, _≤_};
+ghost use lib.ListN.{length, getD, drop};
+ghost use Rattle.meaning.specs.Bytes.{_and_};
+ghost use Rattle.meaning.specs.Names.{notAt, namePasses, sidePasses};
+ghost use Rattle.name.specs.Rules.{nameByte, letter, digit, restOfLock, afterDot, afterSlash, afterAt, stands, standing, kindOf};
+
+// What a text is by the rules: a name, a pattern with one star, or neither.
+pub enum NameKind {
+    Name,
+    Pattern,
+    Neither,
+}
 
 // 4, 5 and 10: a byte that no name has.
 fn forbids(b: u8) -> bool
@@ -16,107 +25,176 @@ fn forbids(b: u8) -> bool
     }
 }
 
-// A byte that a pattern may have: the star, or one that a name may have.
-fn allows(b: u8) -> bool
-    ensures { λ r. ⌜ r ≡ patternByte b ⌝ }
+// 1: what makes a part end with `.lock`, after the dot.
+fn rest_of_lock(s: &[u8]) -> bool
+    ensures { λ r. ⌜ r ≡ restOfLock (now (s .entry)) ⌝ }
 {
-    if b == b'*' {
+    if text::same(s, b"lock") {
         return true;
     }
-    !forbids(b)
+    text::begins(s, b"lock/")
 }
 
-// 3, 6 and 8: a byte that a pattern may have, and that may follow the one before it.
-fn stands(before: u8, b: u8) -> bool
-    ensures { λ r. ⌜ r ≡ stands before b ⌝ }
+// 1, 3 and 7: what stands from `at` on may follow a dot.
+fn after_dot(s: &[u8], at: usize) -> bool
+    requires { ⌜ at ≤ length (now s) ⌝ }
+    ensures { λ r. ⌜ r ≡ afterDot (drop at (now (s .entry))) ⌝ }
+{
+    if at == s.len() {
+        return false;
+    }
+    if s[at] == b'.' {
+        return false;
+    }
+    !rest_of_lock(&s[at..])
+}
+
+// 1 and 6: what stands from `at` on may follow a slash.
+fn after_slash(s: &[u8], at: usize) -> bool
+    requires { ⌜ at ≤ length (now s) ⌝ }
+    ensures { λ r. ⌜ r ≡ afterSlash (drop at (now (s .entry))) ⌝ }
+{
+    if at == s.len() {
+        return false;
+    }
+    if s[at] == b'/' {
+        return false;
+    }
+    s[at] != b'.'
+}
+
+// 8: what stands from `at` on may follow an `@`.
+fn after_at(s: &[u8], at: usize) -> bool
+    requires { ⌜ at ≤ length (now s) ⌝ }
+    ensures { λ r. ⌜ r ≡ afterAt (drop at (now (s .entry))) ⌝ }
+{
+    if at == s.len() {
+        return true;
+    }
+    s[at] != b'{'
+}
+
+// A small letter.
+fn letter(b: u8) -> bool
+    ensures { λ r. ⌜ r ≡ letter b ⌝ }
 {
     match b {
-        b'.' => before != b'.',
-        b'/' => before != b'/',
-        b'{' => before != b'@',
-        _ => allows(b),
+        b'a'..=b'z' => true,
+        _ => false,
     }
 }
 
-// Each byte stands after the one before it, and the first as if after a slash, so that no text begins with one.
-fn bytes_pass(s: &[u8]) -> bool
-    ensures { λ r. ⌜ r ≡ standAfter slash (now (s .entry)) ⌝ }
+// A digit.
+fn digit(b: u8) -> bool
+    ensures { λ r. ⌜ r ≡ digit b ⌝ }
 {
-    let mut before = b'/';
-    let mut i = 0;
+    match b {
+        b'0'..=b'9' => true,
+        _ => false,
+    }
+}
+
+// A name may have the byte number i, and before what follows it.
+fn stands(s: &[u8], i: usize) -> bool
+    requires { ⌜ i < length (now s) ⌝ }
+    ensures { λ r. ⌜ r ≡ stands (getD (now (s .entry)) i 0) (drop (i + 1) (now (s .entry))) ⌝ }
+{
+    let b = s[i];
+    if digit(b) {
+        return true;
+    }
+    match b {
+        b'.' => after_dot(s, i + 1),
+        b'/' => after_slash(s, i + 1),
+        b'@' => after_at(s, i + 1),
+        _ => !forbids(b),
+    }
+}
+
+// The first place from `from` on whose byte is no small letter. Most are, and may stand anywhere, so that few are asked the rules.
+fn past_letters(s: &[u8], from: usize) -> usize
+    requires { ⌜ from ≤ length (now s) ⌝ }
+    ensures { λ r. ⌜ (r + standing (drop r (now (s .entry))) ≡ from + standing (drop from (now (s .entry)))) × (from ≤ r) × (r ≤ length (now (s .entry))) ⌝ }
+{
+    let mut i = from;
     while i < s.len() {
-        let b = s[i];
-        if !stands(before, b) {
-            return false;
+        if !letter(s[i]) {
+            return i;
         }
-        before = b;
         i += 1;
     }
-    true
+    i
 }
 
-// 1: a part between slashes does not begin with `.` or end with `.lock`.
-fn part_passes(p: &[u8]) -> bool
-    ensures { λ r. ⌜ r ≡ partPasses (now (p .entry)) ⌝ }
+// The first place from `from` on whose byte does not stand, or the length.
+fn past_standing(s: &[u8], from: usize) -> usize
+    requires { ⌜ from ≤ length (now s) ⌝ }
+    ensures { λ r. ⌜ (r ≡ from + standing (drop from (now (s .entry)))) × (r ≤ length (now (s .entry))) ⌝ }
 {
-    if text::begins(p, b".") {
-        return false;
-    }
-    !text::ends(p, b".lock")
-}
-
-// 1: and so for all parts.
-fn parts_pass(s: &[u8]) -> bool
-    ensures { λ r. ⌜ r ≡ partsPass (now (s .entry)) ⌝ }
-{
-    let mut at = 0;
-    let mut end = text::find(s, b'/');
-    while end < s.len() {
-        if !part_passes(&s[at..end]) {
-            return false;
+    let mut i = past_letters(s, from);
+    while i < s.len() {
+        if !stands(s, i) {
+            return i;
         }
-        at = end + 1;
-        end = text::find_from(s, at, b'/');
+        i = past_letters(s, i + 1);
     }
-    part_passes(&s[at..])
+    i
 }
 
-// 6, 7 and 9: does not end with `/` or `.`, and is not `@` alone.
-fn end_passes(s: &[u8]) -> bool
-    ensures { λ r. ⌜ r ≡ (not (ends (bytes "/") (now (s .entry))) and noLastDot (now (s .entry)) and notAt (now (s .entry))) ⌝ }
+// 1, 6 and 9: begins as what follows a slash, and is not `@` alone.
+fn opens(s: &[u8]) -> bool
+    ensures { λ r. ⌜ r ≡ (afterSlash (now (s .entry)) and notAt (now (s .entry))) ⌝ }
 {
-    if text::ends(s, b"/") {
-        return false;
-    }
-    if text::ends(s, b".") {
+    if !after_slash(s, 0) {
         return false;
     }
     !text::same(s, b"@")
 }
 
-// A pattern, or a name, passes: the rules with each star read as the letter a. No rule but 5 names a star or an a, so the others
+// A pattern, or a name, passes: the rules with each star read as the letter a. No rule but 5 names a star or an a, so that the others
 // are asked of the text as it stands.
 pub fn pattern(s: &[u8]) -> bool
     ensures { λ r. ⌜ r ≡ sidePasses (now (s .entry)) ⌝ }
 {
-    if s.len() == 0 {
+    if !opens(s) {
         return false;
     }
-    if !parts_pass(s) {
-        return false;
+    let mut i = past_standing(s, 0);
+    while i < s.len() {
+        if s[i] != b'*' {
+            return false;
+        }
+        i = past_standing(s, i + 1);
     }
-    if !bytes_pass(s) {
-        return false;
-    }
-    end_passes(s)
+    true
 }
 
-// A name passes, of one part or more: it has no star, and passes as a pattern does.
+// A name passes, of one part or more: all its bytes stand, and no star does.
 pub fn name_partial(s: &[u8]) -> bool
     ensures { λ r. ⌜ r ≡ namePasses (now (s .entry)) ⌝ }
 {
-    if text::has_byte(s, b'*') {
+    if !opens(s) {
         return false;
     }
-    pattern(s)
+    past_standing(s, 0) == s.len()
+}
+
+// Which of the two a text is, in one look.
+pub fn kind(s: &[u8]) -> NameKind
+    ensures { λ r. ⌜ r ≡ kindOf (now (s .entry)) ⌝ }
+{
+    if !opens(s) {
+        return NameKind::Neither;
+    }
+    let i = past_standing(s, 0);
+    if i == s.len() {
+        return NameKind::Name;
+    }
+    if s[i] != b'*' {
+        return NameKind::Neither;
+    }
+    if past_standing(s, i + 1) == s.len() {
+        return NameKind::Pattern;
+    }
+    NameKind::Neither
 }
