@@ -7,14 +7,16 @@ use mathlib.Core.List.{[], _∷_}
 use borrow.Author.Tests.{ne-eqb, le-leb, lt-leb, not-true, not-false}
 use lib.ListN.{length}
 use Rattle.meaning.specs.Bytes.{Text, _and_, agree, empty, ifGiven}
-use Rattle.meaning.specs.Spec.{_else_then_, Mode, isNegative, push, hasStar, notHashLike, starsAgree, sidesRefusal}
+use Rattle.meaning.specs.Spec.{_else_then_, Mode, isNegative, push, notHashLike, starsAgree, sidesRefusal}
+use Rattle.name.specs.declared.NameKind.{NameKind}
 use Rattle.parse.specs.declared.types.Side.{Side}
 use Rattle.parse.specs.declared.types.RefSpec.{RefSpec}
 use Rattle.parse.specs.Places.{modeMeant, sideMeant, isPresent, specMeant}
-use Rattle.parse.specs.Questions.{_orElse_, entryRefusal, shapeRefusal, sideRefusal, negativeRefusal}
+use Rattle.parse.specs.Questions.{_orElse_, entryRefusal, shapeRefusal, sideRefusal, sideKind, isPattern, kindsAgree, negativeRefusal}
 use Rattle.parse.proofs.Eval.{eval, else-no, else-yes, stop, go-on}
 use Rattle.parse.proofs.Groups.{sides-questions}
 use Rattle.parse.proofs.Parts.{present-meant}
+use Rattle.parse.proofs.Sides.{side-star}
 
 -- ---- questions 18, 1 and 2
 
@@ -73,30 +75,30 @@ module _ (op : ℕ) (withColon : Bool) (m : Mode) (n p q source destination : Bo
 
 -- ---- question 9
 
-module _ (op : ℕ) (t : Text) (r : RefSpec) (n : Bool) (en : n ≡ isNegative (modeMeant (r .mode))) where
+module _ (op : ℕ) (m : Mode) (there : Bool) (source destination : NameKind) (n : Bool) (en : n ≡ isNegative m) where
   -- a negative spec is not asked
-  pub agree-negative : n ≡ true → true ≡ starsAgree op (specMeant t r)
-  unfolding starsAgree specMeant
+  pub agree-negative : n ≡ true → true ≡ kindsAgree op m there source destination
+  unfolding kindsAgree
   agree-negative e = rw (sym en ∙ e)
 
-  module _ (positive : n ≡ false) (o : Bool) (eo : o ≡ (push op and not (isPresent (r .dst)))) where
+  module _ (positive : n ≡ false) (o : Bool) (eo : o ≡ (push op and not there)) where
     -- nor is a push without destination
-    pub agree-one-sided : o ≡ true → true ≡ starsAgree op (specMeant t r)
-    unfolding starsAgree specMeant
-    agree-one-sided e = rw (sym en ∙ positive, present-meant t (r .dst), sym eo ∙ e)
+    pub agree-one-sided : o ≡ true → true ≡ kindsAgree op m there source destination
+    unfolding kindsAgree
+    agree-one-sided e = rw (sym en ∙ positive, sym eo ∙ e)
 
-    module _ (asked : o ≡ false) (a b : Bool) (ea : a ≡ hasStar (sideMeant t (r .src))) (eb : b ≡ hasStar (sideMeant t (r .dst))) where
+    module _ (asked : o ≡ false) (a b : Bool) (ea : a ≡ isPattern source) (eb : b ≡ isPattern destination) where
       -- any other has stars on both sides or on neither
-      agree-both : agree a b ≡ starsAgree op (specMeant t r)
-      unfolding starsAgree specMeant
-      agree-both = rw (sym en ∙ positive, present-meant t (r .dst), sym eo ∙ asked, ea, eb)
+      agree-both : agree a b ≡ kindsAgree op m there source destination
+      unfolding kindsAgree
+      agree-both = rw (sym en ∙ positive, sym eo ∙ asked, ea, eb)
 
       -- a star in the source: the destination decides
-      pub agree-star : a ≡ true → b ≡ starsAgree op (specMeant t r)
+      pub agree-star : a ≡ true → b ≡ kindsAgree op m there source destination
       agree-star e = rw e at agree-both
 
       -- none in the source: none in the destination
-      pub agree-plain : a ≡ false → not b ≡ starsAgree op (specMeant t r)
+      pub agree-plain : a ≡ false → not b ≡ kindsAgree op m there source destination
       agree-plain e = rw e at agree-both
 
 -- ---- questions 10 and 11
@@ -151,11 +153,18 @@ module _ (op : ℕ) (withColon : Bool) (t : Text) (r : RefSpec) where
         pub sides-destination : (destination ≡ 0 → ⊥) → destination ≡ sidesRefusal op withColon (specMeant t r)
         sides-destination n = rw sides-asked (go-on shape _ _ destination es zs (go-on source _ _ destination source-is zo (stop destination _ _ ed n)))
 
-        module _ (zd : destination ≡ 0) (b : Bool) (eb : b ≡ starsAgree op (specMeant t r)) where
+        module _ (zd : destination ≡ 0) (a d : NameKind) (ea : a ≡ sideKind (sideMeant t (r .src))) (ek : d ≡ sideKind (sideMeant t (r .dst))) (b : Bool) (eb : b ≡ kindsAgree op (modeMeant (r .mode)) (isPresent (r .dst)) a d) where
+          -- sides that passed so far are patterns where they have stars
+          stars-are : b ≡ starsAgree op (specMeant t r)
+          unfolding starsAgree specMeant kindsAgree
+          stars-are =
+              rw (present-meant t (r .dst), ← side-star 4 free (sideMeant t (r .src)) (sym eo ∙ zo), ← side-star 6 false (sideMeant t (r .dst)) (sym ed ∙ zd), ← ea, ← ek)
+              eb
+
           -- 9 refuses
           pub sides-stars : not b ≡ true → 9 ≡ sidesRefusal op withColon (specMeant t r)
-          sides-stars e = rw sides-asked (go-on shape _ _ 9 es zs (go-on source _ _ 9 source-is zo (go-on destination _ _ 9 ed zd (else-no 9 _ _ (sym eb ∙ not-true b e)))))
+          sides-stars e = rw sides-asked (go-on shape _ _ 9 es zs (go-on source _ _ 9 source-is zo (go-on destination _ _ 9 ed zd (else-no 9 _ _ (sym stars-are ∙ not-true b e)))))
 
           -- 10, 11 or none refuses
           pub sides-negative : (n : ℕ) → not b ≡ false → n ≡ negativeRefusal (modeMeant (r .mode)) (sideMeant t (r .src)) → n ≡ sidesRefusal op withColon (specMeant t r)
-          sides-negative n e h = rw sides-asked (go-on shape _ _ n es zs (go-on source _ _ n source-is zo (go-on destination _ _ n ed zd (else-yes 9 _ _ n (sym eb ∙ not-false b e) h))))
+          sides-negative n e h = rw sides-asked (go-on shape _ _ n es zs (go-on source _ _ n source-is zo (go-on destination _ _ n ed zd (else-yes 9 _ _ n (sym stars-are ∙ not-false b e) h))))

@@ -1,22 +1,26 @@
--- What is asked of a text and of one side: its stars and the name rules, questions 5 to 8, and whether it looks like a hash, question 11.
+-- What is asked of a text and of one side: its stars and the name rules, questions 5 to 9, and whether it looks like a hash, question 11.
 -- Assumes nothing.
-use Prim.Native.Nat.{ℕ, suc, _+_}
+use Prim.Native.Nat.{ℕ, zero, suc, _+_}
 use native.Mathlib.Nat.{suc-ne-zero}
 use native.Mathlib.Numerals.{add-one}
 use native.Mathlib.Omega.{arith}
-use mathlib.Core.Path.{_≡_, refl, sym, _∙_}
-use mathlib.Core.Bool.{Bool, true, false, not}
+use mathlib.Core.Path.{_≡_, refl, sym, ap, _∙_}
+use mathlib.Core.Bool.{Bool, true, false, not, cond, true≢false}
 use mathlib.Core.List.{[], _∷_}
+use mathlib.Core.Option.{Option, none, some}
 use borrow.Author.Tests.{lt-leb}
-use lib.Dec.{eqb}
+use lib.Dec.{eqb, leb}
 use Rattle.meaning.specs.Bytes.{Text, star, _and_, _or_, any, hasByte, countIf, count, ifGiven}
 use Rattle.meaning.specs.Names.{partPasses, partsPass, noTwoDots, ruleFourByte, noControls, ruleFiveByte, noGlobs, slashesPass, noLastDot, noAtBrace, notAt, noBackslash, namePasses, sidePasses}
 use Rattle.meaning.specs.Spec.{_else_then_, starred, hasStar, hashLike, notHashLike, atMostOneStar}
+use Rattle.name.specs.declared.NameKind.{NameKind}
+use Rattle.name.specs.declared.NameKind.the-variants.{Name, Pattern, Neither}
+use Rattle.name.specs.Rules.{kindByStars, kindOf}
 use Rattle.name.proofs.Stars.{read-none}
 use Rattle.parse.specs.declared.types.Side.{Side}
 use Rattle.parse.specs.declared.types.Side.the-variants.{Part, Head}
 use Rattle.parse.specs.Places.{partAt, sideMeant}
-use Rattle.parse.specs.Questions.{textRefusal, sideRefusal}
+use Rattle.parse.specs.Questions.{textRefusal, sideRefusal, sideKind, isPattern}
 
 -- ---- questions 5 to 8
 
@@ -100,12 +104,72 @@ module _ (first : ℕ) (free : Bool) (t : Text) (side : Side) where
       go true = refl
       go false = refl
 
--- ---- stars and hashes of a side
+-- ---- what a side is by the name rules
+
+-- a kind that passes
+abbrev passes : NameKind → Bool
+passes Name = true
+passes Pattern = true
+passes Neither = false
+
+module _ (first : ℕ) (free : Bool) where
+  -- a text of such a kind is not refused
+  text-passes : (t : Text) → passes (kindOf t) ≡ true → 0 ≡ textRefusal first free t
+  unfolding kindOf textRefusal atMostOneStar
+  text-passes t e = go (sidePasses t) (count star t) e
+    where
+      or-true : (b : Bool) → (b or true) ≡ true
+      or-true true = refl
+      or-true false = refl
+
+      go : (p : Bool) (n : ℕ) → passes (cond p (kindByStars n) Neither) ≡ true → 0 ≡ (leb n 1 else first then ((free and not (starred t)) or p) else suc first then 0)
+      go true zero e = rw (or-true (free and not (starred t)))
+      go true (suc zero) e = rw (or-true (free and not (starred t)))
+      go true (suc (suc n)) e = absurd (true≢false (sym e))
+      go false n e = absurd (true≢false (sym e))
+
+  -- nor is such a side
+  side-passes : (o : Option Text) → passes (sideKind o) ≡ true → 0 ≡ sideRefusal first free o
+  side-passes none e = refl
+  side-passes (some t) e = text-passes t e
+
+  module _ (o : Option Text) (k : NameKind) (is : k ≡ sideKind o) where
+    -- a name
+    pub refusal-name : k ≡ Name → 0 ≡ sideRefusal first free o
+    refusal-name e = side-passes o (ap passes (sym is ∙ e))
+
+    -- a pattern
+    pub refusal-pattern : k ≡ Pattern → 0 ≡ sideRefusal first free o
+    refusal-pattern e = side-passes o (ap passes (sym is ∙ e))
+
+-- a text that is not refused is a pattern if it has a star
+text-star : (n : ℕ) (free : Bool) (t : Text) → textRefusal (suc n) free t ≡ 0 → isPattern (kindOf t) ≡ starred t
+unfolding kindOf textRefusal atMostOneStar starred
+text-star n free t e = go (sidePasses t) (count star t) refl e
+  where
+    no-name : (a b : Bool) → b ≡ true → ((a and not b) or false) ≡ false
+    no-name true b q = rw q
+    no-name false b q = refl
+
+    go : (p : Bool) (k : ℕ) → count star t ≡ k → (leb k 1 else suc n then ((free and not (hasByte star t)) or p) else suc (suc n) then 0) ≡ 0 → isPattern (cond p (kindByStars k) Neither) ≡ hasByte star t
+    go true zero q e = sym (count-none star t q)
+    go false zero q e = sym (count-none star t q)
+    go true (suc zero) q e = sym (count-some star t (λ z. suc-ne-zero 0 (sym q ∙ z)))
+    go false (suc zero) q e =
+        absurd (suc-ne-zero (suc n) (rw (no-name free (hasByte star t) (count-some star t (λ z. suc-ne-zero 0 (sym q ∙ z)))) at e))
+    go p (suc (suc k)) q e = absurd (suc-ne-zero n (rw (lt-leb (suc (suc k)) 1 (omega arith)) at e))
+
+-- and so is a side
+pub side-star : (n : ℕ) (free : Bool) (o : Option Text) → sideRefusal (suc n) free o ≡ 0 → isPattern (sideKind o) ≡ hasStar o
+side-star n free none e = refl
+side-star n free (some t) e = text-star n free t e
+
+-- ---- kinds and hashes of a side
 
 module _ (t : Text) (side : Side) (at n : ℕ) (is : side ≡ Part at n) where
-  -- a part has the stars of its bytes
-  pub star-part : (b : Bool) → b ≡ starred (partAt t at n) → b ≡ hasStar (sideMeant t side)
-  star-part b h = rw is h
+  -- a part is what its bytes are
+  pub kind-part : (k : NameKind) → k ≡ kindOf (partAt t at n) → k ≡ sideKind (sideMeant t side)
+  kind-part k h = rw is h
 
   -- a part looks like a hash if its bytes do
   pub hash-part : (b : Bool) → b ≡ hashLike (partAt t at n) → not b ≡ ifGiven notHashLike (sideMeant t side)
@@ -113,10 +177,10 @@ module _ (t : Text) (side : Side) (at n : ℕ) (is : side ≡ Part at n) where
   hash-part b h = rw (is, h)
 
 module _ (t : Text) (side : Side) (is : side ≡ Head) where
-  -- the supplied `HEAD` has no star
-  pub star-head : false ≡ hasStar (sideMeant t side)
-  unfolding starred
-  star-head = rw is
+  -- the supplied `HEAD` is a name
+  pub kind-head : Name ≡ sideKind (sideMeant t side)
+  unfolding kindOf sidePasses namePasses partsPass partPasses noTwoDots noControls ruleFourByte noGlobs ruleFiveByte slashesPass noLastDot noAtBrace notAt noBackslash
+  kind-head = rw is
 
   -- the supplied `HEAD` does not look like a hash
   pub hash-head : not false ≡ ifGiven notHashLike (sideMeant t side)

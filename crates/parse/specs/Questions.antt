@@ -1,14 +1,17 @@
 -- Document 01's questions on one spec in the groups in which the code asks them. proofs/Groups.antt shows that these groups, one after
 -- the other, are the list of the meaning, `specRefusal`.
 use Prim.Native.Nat.{ℕ, zero, suc}
-use mathlib.Core.Bool.{Bool, not}
+use mathlib.Core.Bool.{Bool, true, false, not}
 use mathlib.Core.Option.{Option, none, some}
 use lib.Dec.{leb}
 use lib.ListN.{length}
-use Rattle.meaning.specs.Bytes.{Text, _and_, _or_, empty, present, ifGiven}
+use Rattle.meaning.specs.Bytes.{Text, _and_, _or_, agree, empty, present, ifGiven}
 use Rattle.meaning.specs.Limits.{specBytes}
 use Rattle.meaning.specs.Names.{sidePasses}
 use Rattle.meaning.specs.Spec.{_else_then_, Mode, isNegative, push, starred, atMostOneStar, notHashLike}
+use Rattle.name.specs.declared.NameKind.{NameKind}
+use Rattle.name.specs.declared.NameKind.the-variants.{Name, Pattern, Neither}
+use Rattle.name.specs.Rules.{kindOf}
 
 -- the first refusal of two
 infixr 30 _orElse_
@@ -42,6 +45,22 @@ textRefusal first free t =
 abbrev pub sideRefusal : ℕ → Bool → Option Text → ℕ
 sideRefusal first free none = 0
 sideRefusal first free (some t) = textRefusal first free t
+
+-- what a side is by the name rules; an absent one counts as a name
+abbrev pub sideKind : Option Text → NameKind
+sideKind none = Name
+sideKind (some t) = kindOf t
+
+-- the kind that has a star
+abbrev pub isPattern : NameKind → Bool
+isPattern Name = false
+isPattern Pattern = true
+isPattern Neither = false
+
+-- 9, asked of what the sides are: both have a star or neither, unless negative or a push without destination
+unfoldable pub kindsAgree : ℕ → Mode → Bool → NameKind → NameKind → Bool
+kindsAgree op m withDestination source destination =
+    isNegative m or (push op and not withDestination) or agree (isPattern source) (isPattern destination)
 
 -- 10 and 11, asked of a negative spec
 unfoldable pub negativeRefusal : Mode → Option Text → ℕ

@@ -5,14 +5,16 @@ ghost use Prim.Native.Nat.{_+_, _≤_, _<_};
 ghost use lib.ListN.{length};
 ghost use Rattle.meaning.specs.Bytes.{_and_, _or_, ifGiven};
 ghost use Rattle.meaning.specs.Names.{namePasses, sidePasses};
-ghost use Rattle.meaning.specs.Spec.{_else_then_, push, starred, hasStar, hashLike, notHashLike, starsAgree, sidesRefusal};
+ghost use Rattle.meaning.specs.Spec.{_else_then_, push, hashLike, notHashLike, sidesRefusal};
+ghost use Rattle.name.specs.Rules.{kindOf};
 ghost use Rattle.parse.specs.Places.{modeMeant, partAt, sideMeant, isPresent, Within, SidesWithin, specMeant};
-ghost use Rattle.parse.specs.Questions.{entryRefusal, shapeRefusal, textRefusal, sideRefusal, negativeRefusal};
+ghost use Rattle.parse.specs.Questions.{entryRefusal, shapeRefusal, textRefusal, sideRefusal, sideKind, isPattern, kindsAgree, negativeRefusal};
 use super::types::Mode;
 use super::types::RefSpec;
 use super::types::Side;
 use super::types::is_negative;
 use super::types::is_present;
+use name::NameKind;
 
 // Document 01's limit on one spec's bytes.
 const SPEC_BYTES: usize = 4096;
@@ -125,24 +127,47 @@ fn skips_rules(op: u64, dst: Side) -> bool
     false
 }
 
-// A star stands in the n bytes that begin at `at`.
-fn part_has_star(spec: &[u8], at: usize, n: usize) -> bool
+// What the n bytes that begin at `at` are by the name rules.
+fn part_kind(spec: &[u8], at: usize, n: usize) -> NameKind
     requires { ⌜ at + n ≤ length (now spec) ⌝ }
-    ensures { λ r. ⌜ r ≡ starred (partAt (now (spec .entry)) at n) ⌝ }
+    ensures { λ r. ⌜ r ≡ kindOf (partAt (now (spec .entry)) at n) ⌝ }
 {
     let end = at + n;
-    text::has_byte(&spec[at..end], b'*')
+    name::kind(&spec[at..end])
 }
 
-// A star stands in a side; an absent one has none.
-fn has_star(spec: &[u8], side: Side) -> bool
+// What a side is by the name rules; an absent one counts as a name, and `HEAD` is one.
+fn side_kind(spec: &[u8], side: Side) -> NameKind
     requires { ⌜ Within (length (now spec)) side ⌝ }
-    ensures { λ r. ⌜ r ≡ hasStar (sideMeant (now (spec .entry)) side) ⌝ }
+    ensures { λ r. ⌜ r ≡ sideKind (sideMeant (now (spec .entry)) side) ⌝ }
 {
     match side {
-        Side::Absent => false,
-        Side::Part(at, n) => part_has_star(spec, at, n),
-        Side::Head => false,
+        Side::Absent => NameKind::Name,
+        Side::Part(at, n) => part_kind(spec, at, n),
+        Side::Head => NameKind::Name,
+    }
+}
+
+// Questions 5 and 6, or 7 and 8, of a side of this kind: only what is neither name nor pattern is asked them one by one.
+fn kind_refusal(first: u64, free: bool, kind: NameKind, spec: &[u8], side: Side) -> u64
+    requires { ⌜ (first < 100) × Within (length (now spec)) side × (kind ≡ sideKind (sideMeant (now spec) side)) ⌝ }
+    ensures { λ r. ⌜ r ≡ sideRefusal first free (sideMeant (now (spec .entry)) side) ⌝ }
+{
+    match kind {
+        NameKind::Name => 0,
+        NameKind::Pattern => 0,
+        NameKind::Neither => side_refusal(first, free, spec, side),
+    }
+}
+
+// The kind that has a star.
+fn is_pattern(kind: NameKind) -> bool
+    ensures { λ r. ⌜ r ≡ isPattern kind ⌝ }
+{
+    match kind {
+        NameKind::Name => false,
+        NameKind::Pattern => true,
+        NameKind::Neither => false,
     }
 }
 
@@ -156,24 +181,20 @@ fn one_sided(op: u64, dst: Side) -> bool
     false
 }
 
-// Question 9: both sides have a star or neither, asked unless negative or a push without destination.
-fn stars_agree(op: u64, spec: &[u8], r: RefSpec) -> bool
-    requires { ⌜ SidesWithin (length (now spec)) r ⌝ }
-    ensures { λ b. ⌜ b ≡ starsAgree op (specMeant (now (spec .entry)) r) ⌝ }
+// Question 9 of sides that passed 5 to 8: both are patterns or neither, asked unless negative or a push without destination.
+fn stars_agree(op: u64, m: Mode, dst: Side, source: NameKind, destination: NameKind) -> bool
+    ensures { λ b. ⌜ b ≡ kindsAgree op (modeMeant m) (isPresent dst) source destination ⌝ }
 {
-    let m = r.mode;
-    let src = r.src;
-    let dst = r.dst;
     if is_negative(m) {
         return true;
     }
     if one_sided(op, dst) {
         return true;
     }
-    if has_star(spec, src) {
-        return has_star(spec, dst);
+    if is_pattern(source) {
+        return is_pattern(destination);
     }
-    !has_star(spec, dst)
+    !is_pattern(destination)
 }
 
 // Forty or more bytes, all hexadecimal digits.
@@ -237,15 +258,17 @@ pub(crate) fn sides_refusal(op: u64, colon: bool, spec: &[u8], r: RefSpec) -> u6
         return shape;
     }
     let free = skips_rules(op, dst);
-    let source = side_refusal(5, free, spec, src);
-    if source != 0 {
-        return source;
+    let source = side_kind(spec, src);
+    let of_source = kind_refusal(5, free, source, spec, src);
+    if of_source != 0 {
+        return of_source;
     }
-    let destination = side_refusal(7, false, spec, dst);
-    if destination != 0 {
-        return destination;
+    let destination = side_kind(spec, dst);
+    let of_destination = kind_refusal(7, false, destination, spec, dst);
+    if of_destination != 0 {
+        return of_destination;
     }
-    if !stars_agree(op, spec, r) {
+    if !stars_agree(op, m, dst, source, destination) {
         return 9;
     }
     negative_refusal(spec, m, src)

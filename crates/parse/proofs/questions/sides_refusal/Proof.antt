@@ -13,14 +13,20 @@ returns c = search sides-shape
 skips-rules-requires : tie.Need-skips-rules-requires
 skips-rules-requires c κs = search needs
 
-side-refusal-requires : tie.Need-side-refusal-requires
-side-refusal-requires c κs = search needs
+side-kind-requires : tie.Need-side-kind-requires
+side-kind-requires c κs = search needs
+
+kind-refusal-requires : tie.Need-kind-refusal-requires
+kind-refusal-requires c κs = search needs
 
 returns-2 : tie.Need-returns-2
 returns-2 c = search sides-source
 
-side-refusal-requires-2 : tie.Need-side-refusal-requires-2
-side-refusal-requires-2 c κs = search needs
+side-kind-requires-2 : tie.Need-side-kind-requires-2
+side-kind-requires-2 c κs = search needs
+
+kind-refusal-requires-2 : tie.Need-kind-refusal-requires-2
+kind-refusal-requires-2 c κs = search needs
 
 returns-3 : tie.Need-returns-3
 returns-3 c = search sides-destination
@@ -44,9 +50,11 @@ sides-refusal-spec =
     shape-refusal-requires
     returns
     skips-rules-requires
-    side-refusal-requires
+    side-kind-requires
+    kind-refusal-requires
     returns-2
-    side-refusal-requires-2
+    side-kind-requires-2
+    kind-refusal-requires-2
     returns-3
     stars-agree-requires
     returns-4

@@ -16,17 +16,17 @@ one-sided-requires c κs = search needs
 returns-2 : tie.Need-returns-2
 returns-2 c = search agree-one-sided
 
-has-star-requires : tie.Need-has-star-requires
-has-star-requires c κs = search needs
+is-pattern-requires : tie.Need-is-pattern-requires
+is-pattern-requires c κs = search needs
 
-has-star-requires-2 : tie.Need-has-star-requires-2
-has-star-requires-2 c κs = search needs
+is-pattern-requires-2 : tie.Need-is-pattern-requires-2
+is-pattern-requires-2 c κs = search needs
 
 returns-3 : tie.Need-returns-3
 returns-3 c = search agree-star
 
-has-star-requires-3 : tie.Need-has-star-requires-3
-has-star-requires-3 c κs = search needs
+is-pattern-requires-3 : tie.Need-is-pattern-requires-3
+is-pattern-requires-3 c κs = search needs
 
 returns-4 : tie.Need-returns-4
 returns-4 c = search agree-plain
@@ -39,8 +39,8 @@ stars-agree-spec =
     returns
     one-sided-requires
     returns-2
-    has-star-requires
-    has-star-requires-2
+    is-pattern-requires
+    is-pattern-requires-2
     returns-3
-    has-star-requires-3
+    is-pattern-requires-3
     returns-4)
