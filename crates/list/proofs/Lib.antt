@@ -3,7 +3,8 @@
 -- of its list, and the list that is being read. `Refusals`: the number of a refusal is above 0. `Shifts`: places in a
 -- text that stands in a list. `SpecSteps`: a spec at a place of its list. `Groups`: a spec list that is being read into a table.
 -- `Told`: what the numbers of an answer tell. `RowQuestions`: question 16. `RowStages`: a row read part by part. `RowSteps`: what is told
--- of the row at a place of its list, and the list that is being read. `RowWalks`: a walk over a row list that was read.
+-- of the row at a place of its list, and the list that is being read. `RowWalks`: a walk over a row list that was read. `TableParts`: a
+-- table in memory is its first records and the others.
 pub mod Texts
 pub mod Records
 pub mod ItemRecords
@@ -19,3 +20,4 @@ pub mod RowQuestions
 pub mod RowStages
 pub mod RowSteps
 pub mod RowWalks
+pub mod TableParts

@@ -1,6 +1,7 @@
 -- `Cursor`: what stands at a place of a list. `Checked`: what reading an item list or a row list answers. `Group`: what reading a spec
--- list answers. `Rows`: what stands at a place of a row list.
+-- list answers. `Table`: a record of a group's table. `Rows`: what stands at a place of a row list.
 pub mod Cursor
 pub mod Checked
 pub mod Group
+pub mod Table
 pub mod Rows

@@ -1,5 +1,6 @@
-//! Byte lists: a cursor over their records, and reading spec lists, item lists and row lists.
+//! Byte lists: a cursor over their records, and reading spec lists, item lists and row lists; the table of a group, lent.
 pub mod cursor;
 pub mod items;
 pub mod rows;
 pub mod specs;
+pub mod table;

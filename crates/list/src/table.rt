@@ -1,0 +1,22 @@
+// The table of a group, lent as a slice of records: thin functions, each of which hands on one record.
+ghost use mathlib.Core.Path.{_≡_};
+ghost use Prim.Native.Nat.{_<_, _≤_};
+ghost use lib.ListN.{length, take};
+ghost use Rattle.list.specs.Table.{specAt};
+use parse::types::RefSpec;
+
+// Record number i of a table that is lent.
+pub fn spec_at(table: &[RefSpec], i: usize) -> RefSpec
+    requires { ⌜ i < length (now table) ⌝ }
+    ensures { λ r. ⌜ r ≡ specAt (now (table .entry)) i ⌝ }
+{
+    table[i]
+}
+
+// Record number i of a group: the first n records of its table, which came by value, are lent.
+pub fn spec_of(table: [RefSpec; 256], n: usize, i: usize) -> RefSpec
+    requires { ⌜ (n ≤ 256) × (i < n) ⌝ }
+    ensures { λ r. ⌜ r ≡ specAt (take n table) i ⌝ }
+{
+    spec_at(&table[..n], i)
+}
