@@ -7,8 +7,8 @@ use Prim.Native.Nat.{ℕ, zero, suc, _+_, _-_, _<_, _≤_}
 use native.Mathlib.Omega.{arith}
 use native.Mathlib.Numerals.{add-one}
 use borrow.Author.Tests.{le-leb, lt-leb}
-use lib.ListN.{length, take, drop, getD, set, length-set, length-take, length-map, drop-of-length-le}
-use lib.Seq.{length-take-le, take-suc-set, drop-cons, getD-take}
+use lib.ListN.{length, take, drop, set, length-set, length-take, length-map, drop-of-length-le}
+use lib.Seq.{length-take-le, take-suc-set, drop-cons}
 use Rattle.meaning.specs.Bytes.{Text}
 use Rattle.meaning.specs.Spec.{Answer, accepted, refused, Spec}
 use Rattle.meaning.specs.Lists.{withFirst, specRecord, readSpecs}
@@ -22,6 +22,7 @@ use Rattle.list.specs.declared.specs.SpecStep.{SpecStep}
 use Rattle.list.specs.declared.specs.SpecStep.the-variants as found
 use Rattle.list.specs.declared.specs.Group.{Group}
 use Rattle.list.specs.Group.{groupMeant, AllWithin, GroupRefused, GroupRead, SpecTaken, SpecTurned, SpecSays}
+use Rattle.list.specs.Table.{blank, specAt}
 use Rattle.list.proofs.Records.{records-past, records-no, records-took}
 use Rattle.list.proofs.Refusals.{specs-positive}
 
@@ -112,24 +113,24 @@ module _ (op : ℕ) (s : Text) (g : Group) where
   unfolding readSpecs
   group-is h k r = rw (le-leb op 1 h, list-records 65535 (specRecord op) s k) r
 
--- a table that is lent: place i, as `let r = t[i]` reads it
+-- record i of a table that is lent, as `spec_of` hands it on
 
-all-within : (len : ℕ) (l : List RefSpec) (i : ℕ) (d : RefSpec) → i < length l → AllWithin len l → SidesWithin len (getD l i d)
-all-within len [] i d h w = absurd (omega arith)
-all-within len (r ∷ l) zero d h w = w .0
-all-within len (r ∷ l) (suc i) d h w = all-within len l i d (omega arith) (w .1)
+pub all-within : (len : ℕ) (l : List RefSpec) (i : ℕ) → i < length l → AllWithin len l → SidesWithin len (specAt l i)
+all-within len [] i h w = absurd (omega arith)
+all-within len (r ∷ l) zero h w = w .0
+all-within len (r ∷ l) (suc i) h w = all-within len l i (omega arith) (w .1)
 
-module _ (t : List RefSpec) (n i : ℕ) (d : RefSpec) (size : length t ≡ 256) (few : n ≤ 256) (below : i < n) where
+module _ (t : List RefSpec) (n i : ℕ) (r : RefSpec) (is : r ≡ specAt (take n t) i) (size : length t ≡ 256) (few : n ≤ 256) (below : i < n) where
   there : i < length (take n t)
   there = omega (arith, length-take-le n t (omega arith))
 
   -- the group from place i on is that spec and those after it
-  pub table-next : (s : Text) → groupMeant s (drop i (take n t)) ≡ specMeant s (getD t i d) ∷ groupMeant s (drop (suc i) (take n t))
-  table-next s = ap (groupMeant s) (drop-cons (take n t) i d there) ∙ rw (getD-take n t i d below)
+  pub table-next : (s : Text) → groupMeant s (drop i (take n t)) ≡ specMeant s r ∷ groupMeant s (drop (suc i) (take n t))
+  table-next s = rw is (ap (groupMeant s) (drop-cons (take n t) i blank there))
 
   -- and its sides stand within the list
-  pub table-within : (len : ℕ) → AllWithin len (take n t) → SidesWithin len (getD t i d)
-  table-within len w = rw (getD-take n t i d below) at (all-within len (take n t) i d there w)
+  pub table-within : (len : ℕ) → AllWithin len (take n t) → SidesWithin len r
+  table-within len w = rw is (all-within len (take n t) i there w)
 
 -- from the last place on there are none
 pub table-end : (t : List RefSpec) (n i : ℕ) → n ≤ i → (s : Text) → groupMeant s (drop i (take n t)) ≡ []

@@ -5,7 +5,7 @@ use native.Mathlib.Omega.{arith}
 use mathlib.Core.Path.{_≡_, refl, sym, ap, _∙_}
 use mathlib.Core.List.{List, [], _∷_, _++_, append-nil}
 use borrow.Author.Tests.{lt-ltb}
-use lib.ListN.{length, take, drop, getD, length-append}
+use lib.ListN.{length, take, drop, length-append}
 use lib.Seq.{take-suc, length-take-le}
 use Rattle.meaning.specs.Bytes.{Text, each}
 use Rattle.meaning.specs.Limits.{specCount}
@@ -23,6 +23,7 @@ use Rattle.write.specs.Yields.{yieldPlace, yieldMeant, YieldWithin}
 use Rattle.refspec.proofs.Fronts.{remote-within}
 use Rattle.write.proofs.Lists.{expand-is, yield-within}
 use Rattle.list.specs.Group.{groupMeant, AllWithin}
+use Rattle.list.specs.Table.{specAt}
 use Rattle.list.proofs.Groups.{table-next, table-within, table-end}
 use Rattle.prefixes.specs.declared.entry.Entry.{Entry}
 use Rattle.prefixes.specs.Distinct.{addAll}
@@ -141,11 +142,34 @@ module _ (specs : Text) (table : List ℕ) (c : ℕ) (y : Yield) where
     pub add-six-is : (after : List ℕ) (d : ℕ) → Entered specs (candidates (partAt specs at n)) table c after d → Entered specs (yieldMeant specs y) table c after d
     add-six-is after d x = rw is x
 
--- a spec yields at most six
+-- a yield has at most six
 yield-few : (specs : Text) (y : Yield) → length (yieldMeant specs y) ≤ 6
 yield-few specs Nothing = omega arith
 yield-few specs (One side) = omega arith
 yield-few specs (Six at n) = let l : length (candidates (partAt specs at n)) ≡ 6 = refl in omega arith
+
+-- ---- a spec
+
+module _ (op : ℕ) (specs : Text) (r : RefSpec) (in-list : SidesWithin (length specs) r) (side : Side) (es : side ≡ remotePlace op r) where
+  -- its side stands within the list
+  pub spec-side : Within (length specs) side
+  spec-side = remote-within op (length specs) r side in-list es
+
+  module _ (y : Yield) (ey : y ≡ yieldPlace specs side) where
+    -- so does what it yields
+    pub spec-yield : YieldWithin (length specs) y
+    spec-yield = yield-within op specs r side y es ey in-list
+
+    -- which is entered
+    pub spec-entered : (table : List ℕ) (c : ℕ) (next : List ℕ) (k : ℕ) → Entered specs (yieldMeant specs y) table c next k → Entered specs (expandPrefixes op (specMeant specs r)) table c next k
+    spec-entered table c next k x = rw (← expand-is op specs r side y es ey in-list) x
+
+-- a spec yields at most six
+spec-few : (op : ℕ) (specs : Text) (r : RefSpec) → SidesWithin (length specs) r → length (expandPrefixes op (specMeant specs r)) ≤ 6
+spec-few op specs r w =
+    let side = remotePlace op r in
+    let y = yieldPlace specs side in
+    rw (← expand-is op specs r side y refl refl w) (yield-few specs y)
 
 -- ---- a group
 
@@ -170,33 +194,24 @@ module _ (op : ℕ) (specs : Text) (group : List RefSpec) (n : ℕ) (table₀ : 
     pub collecting-room : 18 * specCount ≤ length table₀ → 3 * c + 18 ≤ length table
     collecting-room h = omega (arith, m .few, m .kept)
 
-    module _ (size : length group ≡ 256) (d : RefSpec) (in-list : AllWithin (length specs) (take n group)) where
-      spec-within : SidesWithin (length specs) (getD group i d)
-      spec-within = table-within group n i d size few-specs below (length specs) in-list
+    module _ (size : length group ≡ 256) (r : RefSpec) (is : r ≡ specAt (take n group) i) (in-list : AllWithin (length specs) (take n group)) where
+      -- the next record stands within the list
+      pub collecting-within : SidesWithin (length specs) r
+      collecting-within = table-within group n i r is size few-specs below (length specs) in-list
 
-      module _ (side : Side) (es : side ≡ remotePlace op (getD group i d)) where
-        -- the side stands within the list
-        pub collecting-side : Within (length specs) side
-        collecting-side = remote-within op (length specs) (getD group i d) side spec-within es
-
-        module _ (y : Yield) (ey : y ≡ yieldPlace specs side) where
-          -- so does what it yields
-          pub collecting-yield : YieldWithin (length specs) y
-          collecting-yield = yield-within op specs (getD group i d) side y es ey spec-within
-
-          -- which is entered
-          pub collecting-more : (next : List ℕ) (lent : Text) (k : ℕ) → Entered specs (yieldMeant specs y) table c next k → length next ≡ length table → length lent ≡ length scratch → Collecting op specs group n table₀ scratch₀ next lent k (i + 1)
-          collecting-more next lent k x p q = record {
-            turn = omega arith;
-            few = omega (arith, m .few, x .most, yield-few specs y);
-            entries = x .entries;
-            whole =
-                rw (x .holds, add-one i, expand-is op specs (getD group i d) side y es ey spec-within)
-                (sym (all-append (tableTexts specs table c) (expandPrefixes op (specMeant specs (getD group i d))) (each (groupMeant specs (drop (suc i) (take n group))) (expandPrefixes op)))
-                ∙ rw (table-next group n i d size few-specs below specs) at (m .whole));
-            kept = p ∙ m .kept;
-            lent = q ∙ m .lent;
-          }
+      -- what it yields is entered
+      pub collecting-more : (next : List ℕ) (lent : Text) (k : ℕ) → Entered specs (expandPrefixes op (specMeant specs r)) table c next k → length next ≡ length table → length lent ≡ length scratch → Collecting op specs group n table₀ scratch₀ next lent k (i + 1)
+      collecting-more next lent k x p q = record {
+        turn = omega arith;
+        few = omega (arith, m .few, x .most, spec-few op specs r collecting-within);
+        entries = x .entries;
+        whole =
+            rw (x .holds, add-one i)
+            (sym (all-append (tableTexts specs table c) (expandPrefixes op (specMeant specs r)) (each (groupMeant specs (drop (suc i) (take n group))) (expandPrefixes op)))
+            ∙ rw (table-next group n i r is size few-specs below specs) at (m .whole));
+        kept = p ∙ m .kept;
+        lent = q ∙ m .lent;
+      }
 
   -- after the last all is
   pub collecting-whole : n ≤ i → n ≤ specCount → Collected op specs (groupMeant specs (take n group)) table c

@@ -6,9 +6,9 @@ ghost use lib.ListN.{length, take};
 ghost use Rattle.meaning.specs.Limits.{listBytes, specCount};
 ghost use Rattle.meaning.specs.Spec.{accepted};
 ghost use Rattle.meaning.specs.Number.{recordBytes};
-ghost use Rattle.meaning.specs.Prefix.{candidates};
+ghost use Rattle.meaning.specs.Prefix.{candidates, expandPrefixes};
 ghost use Rattle.meaning.specs.Buffers.{MeetsOne};
-ghost use Rattle.parse.specs.Places.{partAt};
+ghost use Rattle.parse.specs.Places.{partAt, SidesWithin, specMeant};
 ghost use Rattle.write.specs.Yields.{yieldMeant, YieldWithin};
 ghost use Rattle.list.specs.Group.{groupMeant, AllWithin};
 ghost use Rattle.prefixes.specs.Table.{tableTexts, Entries, Entered};
@@ -21,6 +21,7 @@ use entry::Entry;
 use entry::side_entry;
 use frames::FRAMES;
 use list::specs::read_specs;
+use list::table::spec_of;
 use parse::types::RefSpec;
 use refspec::spec::remote;
 use table::add;
@@ -56,7 +57,7 @@ fn add_six(
     c
 }
 
-// Enters the texts that a spec yields; how many entries the table has then.
+// Enters the texts of a yield; how many entries the table has then.
 fn add_yield(specs: &[u8], table: &mut [usize], count: usize, scratch: &mut [u8], y: Yield) -> usize
     requires { ⌜ Entries (length (now specs)) (now table) count × YieldWithin (length (now specs)) y × (3 * count + 18 ≤ length (now table)) × (length (now specs) + 18 ≤ length (now scratch)) ⌝ }
     ensures { λ r. ⌜ Entered (now (specs .entry)) (yieldMeant (now (specs .entry)) y) (now (table .entry)) count (now (table .exit)) r ⌝ }
@@ -66,6 +67,22 @@ fn add_yield(specs: &[u8], table: &mut [usize], count: usize, scratch: &mut [u8]
         Yield::One(side) => add(specs, table, count, scratch, side_entry(side)),
         Yield::Six(at, n) => add_six(specs, table, count, scratch, at, n),
     }
+}
+
+// Enters the texts that a spec yields; how many entries the table has then.
+fn add_spec(
+    op: u64,
+    specs: &[u8],
+    r: RefSpec,
+    table: &mut [usize],
+    count: usize,
+    scratch: &mut [u8],
+) -> usize
+    requires { ⌜ Entries (length (now specs)) (now table) count × SidesWithin (length (now specs)) r × (3 * count + 18 ≤ length (now table)) × (length (now specs) + 18 ≤ length (now scratch)) ⌝ }
+    ensures { λ n. ⌜ Entered (now (specs .entry)) (expandPrefixes op (specMeant (now (specs .entry)) r)) (now (table .entry)) count (now (table .exit)) n ⌝ }
+{
+    let y = yield_of(specs, remote(op, r));
+    add_yield(specs, table, count, scratch, y)
 }
 
 // Enters the texts that the first n specs of a table yield; how many there are.
@@ -83,9 +100,8 @@ fn collect(
     let mut count = 0;
     let mut i = 0;
     while i < n {
-        let r = group[i];
-        let y = yield_of(specs, remote(op, r));
-        count = add_yield(specs, table, count, scratch, y);
+        let r = spec_of(group, n, i);
+        count = add_spec(op, specs, r, table, count, scratch);
         i += 1;
     }
     count
