@@ -2,11 +2,14 @@
 use Prim.Native.Nat.{ℕ, suc, _≤_}
 use mathlib.Core.Bool.{Bool, true, false, cond}
 use mathlib.Core.List.{[], _++_}
+use lib.Dec.{eqb}
 use lib.ListN.{length}
 use Rattle.meaning.specs.Bytes.{Text, orEmpty}
 use Rattle.meaning.specs.Limits.{listBytes, nameBytes, itemCount, specCount}
 use Rattle.meaning.specs.Number.{numberBytes}
 use Rattle.meaning.specs.Rows as meaning
+use Rattle.parse.specs.declared.types.Side.{Side}
+use Rattle.parse.specs.declared.types.Side.the-variants as side
 use Rattle.matcher.specs.declared.types.Made.{Made}
 use Rattle.matcher.specs.declared.types.Made.the-variants.{Absent, Name, Led, Filled}
 use Rattle.matcher.specs.Matching.{madeMeant, MadeWithin}
@@ -60,3 +63,9 @@ objectPlaces i source destination = record { item = 0; spec = i; kind = 1; sourc
 -- a destination that is there: its length plus 1, then its bytes
 abbrev pub presentBytes : Text → Text
 presentBytes t = numberBytes (suc (length t)) ++ t
+
+-- a side has as many bytes as an object id; `HEAD` has not
+abbrev pub hasIdSize : Side → Bool
+hasIdSize side.Absent = false
+hasIdSize (side.Part at n) = eqb n 40
+hasIdSize side.Head = false

@@ -9,7 +9,7 @@ ghost use Rattle.parse.specs.Places.{specMeant};
 ghost use Rattle.list.specs.Group.{groupMeant};
 ghost use Rattle.matcher.specs.Matching.{MadeWithin};
 ghost use Rattle.match_group.specs.Listing.{eachFrom, objectBytes};
-ghost use Rattle.match_group.specs.Rows.{rowMeant, objectPlaces};
+ghost use Rattle.match_group.specs.Rows.{rowMeant, objectPlaces, hasIdSize};
 ghost use Rattle.match_group.specs.Loops.{Put, SpecReady, TableReady};
 use super::row::Row;
 use super::row::put_row;
@@ -19,6 +19,7 @@ use matcher::object;
 use matcher::types::Ends;
 use matcher::types::Made;
 use parse::types::RefSpec;
+use parse::types::Side;
 
 // The row of an object source of spec i.
 fn object_row(i: usize, source: Made, destination: Made) -> Row
@@ -62,11 +63,26 @@ fn put_made_object(
     )
 }
 
+// A side has as many bytes as an object id.
+fn has_id_size(side: Side) -> bool
+    ensures { λ r. ⌜ r ≡ hasIdSize side ⌝ }
+{
+    match side {
+        Side::Absent => false,
+        Side::Part(_, n) => n == 40,
+        Side::Head => false,
+    }
+}
+
 // How many bytes the row of spec i takes as an object source; any other spec has none.
 fn object_size(specs: &[u8], r: RefSpec, i: usize) -> usize
     requires { ⌜ SpecReady (now specs) r i × (length (now specs) ≤ listBytes) ⌝ }
     ensures { λ n. ⌜ (n ≡ length (objectBytes i (specMeant (now (specs .entry)) r))) × (n ≤ 500000) ⌝ }
 {
+    let src = r.src;
+    if !has_id_size(src) {
+        return 0;
+    }
     let m = matcher(specs, r);
     match object(specs, m) {
         Ends::Nothing => 0,
@@ -82,6 +98,10 @@ fn put_object(out: &mut [u8], at: usize, specs: &[u8], r: RefSpec, i: usize) -> 
     requires { ⌜ SpecReady (now specs) r i × (length (now specs) ≤ listBytes) × (at + length (objectBytes i (specMeant (now specs) r)) ≤ length (now out)) ⌝ }
     ensures { λ n. ⌜ Put (now (out .entry)) at (objectBytes i (specMeant (now (specs .entry)) r)) (now (out .exit)) n ⌝ }
 {
+    let src = r.src;
+    if !has_id_size(src) {
+        return at;
+    }
     let m = matcher(specs, r);
     match object(specs, m) {
         Ends::Nothing => at,
