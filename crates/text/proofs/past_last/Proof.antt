@@ -5,7 +5,7 @@ use native.Mathlib.Omega.{arith}
 use borrow.Author.Needs.{needs}
 use lib.ListN.{length, take}
 use Rattle.text.specs.Place.{pastLast}
-use Rattle.text.proofs.Lasts.{last-whole, last-here, last-before, last-none}
+use Rattle.text.proofs.Lasts.{last-whole, last-of-two, last-second, last-before-two, last-none, last-first, last-not-first}
 use Rattle.text.proofs.past_last.Statement.{statement}
 use Rattle.text.proofs.past_last.Tie as tie
 
@@ -25,7 +25,19 @@ shared-slice-read-if1 : tie.Need-shared-slice-read-if1 Inv-loop μ-loop
 shared-slice-read-if1 c = search needs
 
 returns : tie.Need-returns Inv-loop μ-loop
-returns c = (search last-here, search needs)
+returns c = (search last-of-two, search needs)
+
+sub-if2 : tie.Need-sub-if2 Inv-loop μ-loop
+sub-if2 c = search needs
+
+shared-slice-read-if2 : tie.Need-shared-slice-read-if2 Inv-loop μ-loop
+shared-slice-read-if2 c = search needs
+
+sub-result : tie.Need-sub-result Inv-loop μ-loop
+sub-result c = search needs
+
+returns-2 : tie.Need-returns-2 Inv-loop μ-loop
+returns-2 c = (search last-second, search needs)
 
 sub-i : tie.Need-sub-i Inv-loop μ-loop
 sub-i c = search needs
@@ -34,10 +46,19 @@ loop-less : tie.Need-loop-less Inv-loop μ-loop
 loop-less c = search needs
 
 loop-again : tie.Need-loop-again Inv-loop μ-loop
-loop-again c = (search needs, search last-before)
+loop-again c = (search needs, search last-before-two)
 
-returns-2 : tie.Need-returns-2 Inv-loop μ-loop
-returns-2 c = (search last-none, omega arith)
+returns-3 : tie.Need-returns-3 Inv-loop μ-loop
+returns-3 c = (search last-none, omega arith)
+
+shared-slice-read-if4 : tie.Need-shared-slice-read-if4 Inv-loop μ-loop
+shared-slice-read-if4 c = search needs
+
+returns-4 : tie.Need-returns-4 Inv-loop μ-loop
+returns-4 c = (search last-first, omega arith)
+
+returns-5 : tie.Need-returns-5 Inv-loop μ-loop
+returns-5 c = (search last-not-first, omega arith)
 
 pub past-last-spec : {M : Type 1} → statement M
 past-last-spec =
@@ -49,7 +70,14 @@ past-last-spec =
     sub-if1
     shared-slice-read-if1
     returns
+    sub-if2
+    shared-slice-read-if2
+    sub-result
+    returns-2
     sub-i
     loop-less
     loop-again
-    returns-2)
+    returns-3
+    shared-slice-read-if4
+    returns-4
+    returns-5)
