@@ -15,8 +15,9 @@ use groups::Lists;
 use hex::from_hex;
 use std::process::ExitCode;
 use validation::{Case, Second};
+use work::Sample;
 
-const USAGE: &str = "usage: differential [--seed N] [--part specs|groups|validation] \
+const USAGE: &str = "usage: differential [--seed N] [--one-in N] [--part specs|groups|validation] \
     [--count N] [--groups N] [--listings N] [--fault oracle|ours|paper] \
     [--op N --spec-hex HEX | --op N --specs-hex HEX --items-hex HEX | --op N --specs-hex HEX --rows-hex HEX]";
 
@@ -48,7 +49,7 @@ impl Fault {
 
 /// What the command line asks for.
 struct Options {
-    seed: u64,
+    sample: Sample,
     /// The one part that is compared, if not all are.
     part: Option<Part>,
     count: u64,
@@ -72,7 +73,7 @@ enum Part {
 
 fn options() -> Option<Options> {
     let mut options = Options {
-        seed: 1,
+        sample: Sample { seed: 1, one_in: 1 },
         part: None,
         count: 1_000_000,
         groups: 500_000,
@@ -88,7 +89,8 @@ fn options() -> Option<Options> {
     while let Some(word) = words.next() {
         let value = words.next()?;
         match word.as_str() {
-            "--seed" => options.seed = value.parse().ok()?,
+            "--seed" => options.sample.seed = value.parse().ok()?,
+            "--one-in" => options.sample.one_in = value.parse().ok().filter(|one_in| *one_in > 0)?,
             "--part" if value == "specs" => options.part = Some(Part::Specs),
             "--part" if value == "groups" => options.part = Some(Part::Groups),
             "--part" if value == "validation" => options.part = Some(Part::Validation),
@@ -114,7 +116,7 @@ fn main() -> ExitCode {
         eprintln!("{USAGE}");
         return ExitCode::from(2);
     };
-    let mut random = Random::new(options.seed, u64::MAX);
+    let mut random = Random::new(options.sample.seed, u64::MAX);
     let noise: Vec<u8> = (0..8 * cases::SPEC_LIMIT).map(|_| random.next() as u8).collect();
     let specs = specs::Comparison { fault: options.fault, noise: noise.clone() };
     let groups = groups::Comparison { entries: groups::ENTRIES, fault: options.fault, noise: noise.clone() };
@@ -134,9 +136,9 @@ fn main() -> ExitCode {
         }
     } else {
         let compares = |one| part.is_none_or(|part| part == one);
-        (!compares(Part::Specs) || specs::run(specs, options.seed, options.count))
-            && (!compares(Part::Groups) || groups::run(groups, options.seed, options.groups))
-            && (!compares(Part::Validation) || validation::run(validation, options.seed, options.listings))
+        (!compares(Part::Specs) || specs::run(specs, options.sample, options.count))
+            && (!compares(Part::Groups) || groups::run(groups, options.sample, options.groups))
+            && (!compares(Part::Validation) || validation::run(validation, options.sample, options.listings))
     };
     if passed { ExitCode::SUCCESS } else { ExitCode::FAILURE }
 }

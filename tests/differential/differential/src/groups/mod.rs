@@ -16,7 +16,7 @@ use crate::{
     damage::{Damage, Pair},
     hex::to_hex,
     specs::records,
-    work,
+    work::{self, Sample},
 };
 use cases::{Random, damaged, group};
 use std::time::Instant;
@@ -44,22 +44,22 @@ pub struct Lists {
 
 /// Compares `count` grown groups for both operations, good lists and damaged ones, and
 /// full-size groups.
-pub fn run(comparison: Comparison, seed: u64, count: u64) -> bool {
-    let full = full::lists(seed);
+pub fn run(comparison: Comparison, sample: Sample, count: u64) -> bool {
+    let full = full::lists(sample.seed);
     let damage = Damage::of(damage::pairs());
     let lists = |(op, specs, items): Pair| Lists { op, specs, items };
-    let mut run = Run { comparison, seen: Seen::default(), began: Instant::now() };
+    let mut run = Run { comparison, sample, seen: Seen::default(), began: Instant::now() };
     let passed = run.operations()
         && run.lists("grown groups, each for both operations", 2 * count, CHUNK, |n| {
             let again = if n % THOROUGH < 2 { Again::All } else { Again::One(n / 2) };
-            (Lists { op: n % 2, ..grown(seed, n / 2) }, again)
+            (Lists { op: n % 2, ..grown(sample.seed, n / 2) }, again)
         })
         && run.lists("good lists", damage.good().len() as u64, 1, |n| {
             (lists(damage.good()[n as usize].clone()), Again::All)
         })
         && run.lists("damaged lists", damage.count(), CHUNK, |n| (lists(damage.copy(n)), Again::One(n)))
         && run.lists("full-size groups", full.len() as u64, 1, |n| (full[n as usize].clone(), Again::All))
-        && run.seen.everything();
+        && (run.seen.everything() || sample.is_part());
     if passed {
         println!("differential: {} comparisons of groups, no difference", run.seen.total());
     }
@@ -112,6 +112,7 @@ fn part(answer: Result<paper::Part, paper::Refused>) -> Part {
 /// A run: comparisons, one family of lists after another, until a difference.
 struct Run {
     comparison: Comparison,
+    sample: Sample,
     seen: Seen,
     began: Instant,
 }
@@ -145,13 +146,17 @@ impl Run {
             let (lists, again) = lists(number);
             self.comparison.run(&lists, again, seen).is_ok()
         };
-        let (tallies, differing) = work::share(count, chunk, compare);
+        let (tallies, differing) = work::share(self.sample, count, chunk, compare);
         let size = |lists: &Lists| lists.specs.len() + lists.items.len();
         if let Some(lists) = differing.into_iter().map(|number| lists(number).0).min_by_key(size) {
             return self.differs(lists);
         }
         tallies.iter().for_each(|seen| self.seen.add(seen));
-        println!("{what}: {count} comparisons, {:.1} s", self.began.elapsed().as_secs_f64());
+        println!(
+            "{what}: {} comparisons, {:.1} s",
+            self.sample.of(count),
+            self.began.elapsed().as_secs_f64()
+        );
         true
     }
 

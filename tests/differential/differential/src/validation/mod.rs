@@ -17,7 +17,7 @@ use crate::{
     damage::{Damage, Pair},
     groups,
     hex::to_hex,
-    work,
+    work::{self, Sample},
 };
 use std::{borrow::Cow, time::Instant};
 use vasigmon::{Group, Items, Operation, raw::Validation};
@@ -87,15 +87,16 @@ impl Case {
 
 /// Compares `count` forward listings and twice as many grown row lists, good lists and
 /// damaged ones, and full-size lists.
-pub fn run(comparison: Comparison, seed: u64, count: u64) -> bool {
+pub fn run(comparison: Comparison, sample: Sample, count: u64) -> bool {
     let full = full::cases();
     let damage = Damage::of(good::pairs());
     let again = |n| if n % THOROUGH == 0 { Again::All } else { Again::One(n) };
-    let mut run = Run { comparison, seen: Seen::default(), began: Instant::now() };
+    let mut run = Run { comparison, sample, seen: Seen::default(), began: Instant::now() };
     let passed = run.operations()
-        && run
-            .cases("forward listings", count, CHUNK, |n| (Case::of_group(groups::grown(seed, n)), again(n)))
-        && run.cases("grown row lists", 2 * count, CHUNK, |n| (grown::case(seed, n), again(n)))
+        && run.cases("forward listings", count, CHUNK, |n| {
+            (Case::of_group(groups::grown(sample.seed, n)), again(n))
+        })
+        && run.cases("grown row lists", 2 * count, CHUNK, |n| (grown::case(sample.seed, n), again(n)))
         && run.cases("good row lists", damage.good().len() as u64, 1, |n| {
             (Case::of_pair(damage.good()[n as usize].clone()), Again::All)
         })
@@ -106,7 +107,7 @@ pub fn run(comparison: Comparison, seed: u64, count: u64) -> bool {
             let (case, again) = &full[n as usize];
             (case.clone(), *again)
         })
-        && run.seen.everything();
+        && (run.seen.everything() || sample.is_part());
     if passed {
         println!("differential: {} comparisons of validation, no difference", run.seen.total());
     }
@@ -131,6 +132,7 @@ fn refusal(why: paper::Refused) -> Validation {
 /// A run: comparisons, one family of cases after another, until a difference.
 struct Run {
     comparison: Comparison,
+    sample: Sample,
     seen: Seen,
     began: Instant,
 }
@@ -164,12 +166,16 @@ impl Run {
             let (case, again) = case(number);
             self.comparison.run(&case, again, seen).is_ok()
         };
-        let (tallies, differing) = work::share(count, chunk, compare);
+        let (tallies, differing) = work::share(self.sample, count, chunk, compare);
         if let Some(case) = differing.into_iter().map(|number| case(number).0).min_by_key(Case::size) {
             return self.differs(case);
         }
         tallies.iter().for_each(|seen| self.seen.add(seen));
-        println!("{what}: {count} comparisons, {:.1} s", self.began.elapsed().as_secs_f64());
+        println!(
+            "{what}: {} comparisons, {:.1} s",
+            self.sample.of(count),
+            self.began.elapsed().as_secs_f64()
+        );
         true
     }
 
