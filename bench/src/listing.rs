@@ -33,7 +33,7 @@ pub fn workloads() -> Vec<Workload> {
     workloads
 }
 
-fn workload(work: Work, specs: usize, items: usize, share: (&str, usize), negatives: bool) -> Workload {
+pub fn workload(work: Work, specs: usize, items: usize, share: (&str, usize), negatives: bool) -> Workload {
     let (share, one_in) = share;
     let kinds = Kinds { forward: work == Work::Forward, negatives };
     let variant = if negatives { "negatives" } else { "no negatives" };

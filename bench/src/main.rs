@@ -7,6 +7,7 @@
 
 mod counting;
 mod group;
+mod growth;
 mod listing;
 mod plot;
 mod reading;
@@ -74,6 +75,9 @@ fn run() -> io::Result<()> {
     if let Some(numbers) = &arguments.counted {
         counting::call_counted(&mut workloads, numbers);
         return Ok(());
+    }
+    if arguments.words.is_empty() {
+        growth::print();
     }
     let mut measured = Vec::new();
     for (number, workload) in workloads.iter_mut().enumerate() {
