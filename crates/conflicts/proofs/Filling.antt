@@ -1,7 +1,7 @@
 -- The index of a row list: the places of its rows that have a destination. Assumes nothing.
-use mathlib.Core.Path.{_≡_, refl, sym, ap, subst, _∙_}
+use mathlib.Core.Path.{_≡_, refl, sym, ap, _∙_}
 use mathlib.Core.Bool.{Bool, true, false, cond}
-use mathlib.Core.List.{List, [], _∷_, _++_, map}
+use mathlib.Core.List.{List, [], _∷_, _++_}
 use mathlib.Core.Option.{Option, none, some}
 use Prim.Native.Nat.{ℕ, zero, suc, _+_, _-_, _*_, _≤_, _<_}
 use native.Mathlib.Numerals.{add-one}
@@ -12,7 +12,7 @@ use mir.Syntax.{w8}
 use lib.ListN.{length, getD, take, drop, set, length-set, length-append, length-drop}
 use lib.Seq.{take-suc-set, getD-drop, length-take-le}
 use Rattle.meaning.specs.Bytes.{Text, _and_, every, keep, present}
-use Rattle.meaning.specs.Number.{Step, took, no, stepThen, need, give, numberBytes, textBytes}
+use Rattle.meaning.specs.Number.{took, need, give, numberBytes, textBytes}
 use Rattle.meaning.specs.Rows as meaning
 use Rattle.promises.specs.Facts.{isByte}
 use Rattle.promises.proofs.Laws.{and-both}

@@ -1,11 +1,10 @@
 -- The conflicts run by run: the run at the front of a sorted index, and the rest. Assumes nothing.
 use mathlib.Core.Path.{_≡_, refl, sym, ap, _∙_}
-use mathlib.Core.Bool.{Bool, true, false, not, cond}
-use mathlib.Core.List.{List, [], _∷_, _++_, map}
+use mathlib.Core.Bool.{Bool, true, false, cond}
+use mathlib.Core.List.{List, [], _∷_, _++_}
 use mathlib.Core.Option.{Option, none, some}
-use Prim.Native.Nat.{ℕ, zero, suc, _+_, _≤_, _<_}
-use native.Mathlib.Omega.{arith}
-use lib.ListN.{length, getD, take, drop, take-append-drop}
+use Prim.Native.Nat.{ℕ, suc, _+_}
+use lib.ListN.{getD, take, drop, take-append-drop}
 use Rattle.meaning.specs.Bytes.{Text, keep, each, same, present, orEmpty}
 use Rattle.meaning.specs.Rows.{Row}
 use Rattle.meaning.specs.Validation.{onto, isText, rowsOnto, inConflict, conflictOn}

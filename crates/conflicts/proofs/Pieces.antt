@@ -1,5 +1,5 @@
 -- A text and the source of a row, measured and written piece by piece. Assumes nothing.
-use mathlib.Core.Path.{_≡_, refl, sym, _∙_}
+use mathlib.Core.Path.{_≡_, refl, sym}
 use mathlib.Core.List.{[], _++_, append-nil}
 use Prim.Native.Nat.{ℕ, _+_, _-_, _≤_}
 use native.Mathlib.Omega.{arith}
@@ -11,7 +11,6 @@ use Rattle.meaning.specs.Number.{numberBytes, textBytes}
 use Rattle.meaning.specs.Validation.{sourceBytes}
 use Rattle.text.specs.Splice.{splice}
 use Rattle.text.proofs.Writing.{Writing, writing-starts, writing-room, writing-more, written-place, written-whole}
-use Rattle.number.specs.Reading.{largestNumber}
 use Rattle.number.proofs.Bytes.{bytes-few}
 use Rattle.number.proofs.Texts.{text-size, number-room, text-room, text-put, text-ends}
 use Rattle.parse.specs.Places.{partAt}
@@ -24,9 +23,6 @@ use Rattle.conflicts.proofs.Parts.{part-is, part-long}
 module _ (s : Text) (start len : ℕ) (inside : start + len ≤ length s) where
   long : len ≡ length (partAt s start len)
   long = sym (part-long s start len inside)
-
-  pub text-small : length s ≤ 1048576 → len ≤ largestNumber
-  text-small short = omega arith
 
   pub text-long : (m : ℕ) → m ≡ length (numberBytes len) → m + len ≡ length (textBytes (partAt s start len))
   text-long m e = text-size (partAt s start len) len long m e
@@ -62,9 +58,6 @@ module _ (s : Text) (p : ℕ) (f : RowFields) (w : Finds s (rowAt s p) f) where
   source-pieces : sourceAt s p ≡ numberBytes (f .spec) ++ (numberBytes (f .kind) ++ textBytes (partAt s (f .«src_at») (f .«src_len»)))
   unfolding sourceAt sourceBytes
   source-pieces = rw (w .spec-is, w .kind-is, w .source-is)
-
-  pub source-text-small : length s ≤ 1048576 → f .«src_len» ≤ largestNumber
-  source-text-small short = omega (arith, w .source-within)
 
   module _ (short : length s ≤ 1048576) (x y z : ℕ) (ex : x ≡ length (numberBytes (f .spec))) (ey : y ≡ length (numberBytes (f .kind))) (ez : z ≡ length (numberBytes (f .«src_len»))) where
     pub source-fits : Fits w64 (x + y + z + f .«src_len»)

@@ -1,15 +1,15 @@
 -- The conflict of rows that share a destination, from the first row of each source. Assumes nothing.
 use mathlib.Core.Path.{_≡_, refl, sym, ap, _∙_}
-use mathlib.Core.Bool.{Bool, true, false, not, cond}
+use mathlib.Core.Bool.{Bool, true, false, cond}
 use mathlib.Core.List.{List, [], _∷_, _++_, map, append-nil, append-assoc}
-use Prim.Native.Nat.{ℕ, zero, suc, _+_, _*_, _≤_, _<_}
+use Prim.Native.Nat.{ℕ, suc, _+_, _≤_, _<_}
 use native.Mathlib.Nat.{add-zero}
 use native.Mathlib.Omega.{arith}
 use mir.Val.{Fits}
 use mir.Syntax.{w64}
 use lib.ListN.{length, getD, take, length-append}
 use lib.Seq.{length-take-le}
-use Rattle.meaning.specs.Bytes.{Text, _and_, any, keep, each, same, In, here, there}
+use Rattle.meaning.specs.Bytes.{Text, any, keep, each, In, here, there}
 use Rattle.meaning.specs.Number.{numberBytes, textBytes}
 use Rattle.meaning.specs.Rows.{Row}
 use Rattle.meaning.specs.Validation.{differ, rowsOnto, twoDiffer, inConflict, firstSeen, rowSource, conflictOn, sourceBytes, conflictBytes}

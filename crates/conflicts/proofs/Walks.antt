@@ -1,20 +1,17 @@
 -- A walk over the rows of a list that was read. Assumes nothing.
 use mathlib.Core.Path.{_≡_, refl, sym, ap, _∙_, subst}
 use mathlib.Core.Bool.{Bool, true, false, cond}
-use mathlib.Core.Logic.{_⊎_, inl, inr}
 use mathlib.Core.List.{List, [], _∷_}
 use mathlib.Core.Option.{Option, none, some}
 use Prim.Native.Nat.{ℕ, zero, suc, _+_, _-_, _≤_, _<_}
 use native.Mathlib.Omega.{arith}
 use native.Mathlib.Numerals.{add-one}
-use borrow.Author.Tests.{eqb-true}
-use lib.Dec.{eqb, ltb}
+use lib.Dec.{ltb}
 use lib.ListN.{length, drop}
 use Rattle.meaning.specs.Bytes.{Text, _and_, _or_}
-use Rattle.meaning.specs.Spec.{accepted, refused}
+use Rattle.meaning.specs.Spec.{accepted}
 use Rattle.meaning.specs.Number.{Step, took, no}
 use Rattle.meaning.specs.Rows as meaning
-use Rattle.promises.proofs.Laws.{and-left, and-right, or-cases}
 use Rattle.parse.specs.declared.types.Side.{Side}
 use Rattle.parse.specs.declared.types.Side.the-variants.{Absent, Part, Head}
 use Rattle.parse.specs.Places.{Within}
@@ -93,9 +90,6 @@ module _ (specs : ℕ) (s : Text) (at j : ℕ) (a : At specs s at j) (w : RowSte
           is = rw (add-one j) (n .is ∙ ap (λ (l : List meaning.Row). rowMeant s row ∷ l) d);
           there = record { left = rw (add-one j) (subst (RowsLeft specs s (next .at) (suc j)) d (n .left)); short = a .short };
         }
-
-    pub next-at : At specs s (next .at) (j + 1)
-    next-at = next-row .there
 
     pub next-destination : InList (length s) (row .dst)
     next-destination = within-list (length s) (row .dst) (taken .dst-within) (stands-not-head specs s at row next (sym e ∙ stands))

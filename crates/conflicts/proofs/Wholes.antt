@@ -9,8 +9,8 @@ use native.Mathlib.Omega.{arith}
 use mir.Val.{Fits}
 use mir.Syntax.{w64}
 use borrow.Rule.Slice.PartMut.{putMid, mid-len, drop-put, same-len-mid}
-use lib.ListN.{length, getD, take, drop, length-append, length-drop}
-use lib.Seq.{length-take-le, drop-drop}
+use lib.ListN.{length, getD, take, drop, length-append}
+use lib.Seq.{drop-drop}
 use Rattle.meaning.specs.Bytes.{Text, keep, each, present, inOrder}
 use Rattle.meaning.specs.Number.{numberBytes, textBytes}
 use Rattle.meaning.specs.Rows.{Row}
@@ -18,17 +18,16 @@ use Rattle.meaning.specs.Validation.{listed, destinationOf, isText, onto, rowsO
 use Rattle.promises.proofs.Reading.{number-long}
 use Rattle.text.specs.Splice.{splice}
 use Rattle.text.proofs.Rests.{rest-cons, rest-end}
-use Rattle.text.proofs.Writing.{Writing, writing-starts, writing-room, writing-more, written-place, written-whole}
+use Rattle.text.proofs.Writing.{Writing, writing-starts, writing-room, writing-more, written-whole}
 use Rattle.order.specs.declared.key.Key.the-variants.{Destination}
 use Rattle.order.specs.Sorting.{insertBy, sortBy, Sorted, runOf, heads, Ascending}
-use Rattle.order.specs.Keys.{rowAt, sameAt, notAfter, sortPlaces}
+use Rattle.order.specs.Keys.{rowAt, sameAt, notAfter}
 use Rattle.order.proofs.Sorts.{sorted-sort}
 use Rattle.order.proofs.Keys.{keys-order}
 use Rattle.order.proofs.Runs.{group-kept}
 use Rattle.order.proofs.Heads.{ascending-keep}
-use Rattle.conflicts.specs.Listed.{rowsIn, RowsRead, conflictsBytes, conflictPart}
-use Rattle.conflicts.specs.Indexed.{rowsAt, destinationAt, hasDestination, Given, Indexed, SortedIndex, OneRun, runBytes}
-use Rattle.conflicts.proofs.Walks.{list-short}
+use Rattle.conflicts.specs.Listed.{rowsIn, conflictsBytes, conflictPart}
+use Rattle.conflicts.specs.Indexed.{rowsAt, destinationAt, hasDestination, Given, SortedIndex, OneRun, runBytes}
 use Rattle.conflicts.proofs.Shares.{each-map}
 use Rattle.conflicts.proofs.InOrder.{in-order}
 use Rattle.conflicts.proofs.Grouped.{part-by, walk, walk-run, onto-keep, onto-again, run-shares}
@@ -290,10 +289,6 @@ module _ (specs : ℕ) (s : Text) (d₀ d : List ℕ) (i : ℕ) (buffer out : Te
               rw (back-drop s d i (k .at) some end run begun room ys same)
               (writing-more buffer 0 (conflictsBytes (rowsIn specs s)) out to (walk s (drop i d)) (k .writing) (runBytes s (take (end - i) (drop i d))) (walk s (drop end d)) (walk-on s d i (k .at) some end run begun room) new stop p q);
         }
-
--- an index that was filled, and sorted
-pub index-sorts : (specs : ℕ) (s : Text) (d e : List ℕ) → Indexed specs s d → e ≡ sortPlaces Destination s d → SortedIndex specs s e
-index-sorts specs s d e i q = record { places = d; indexed = i; sorted = q }
 
 -- there are bytes exactly where there are conflicts
 

@@ -1,6 +1,6 @@
 // The sources of the rows at places: measured and written.
 ghost use mathlib.Core.Path.{_≡_};
-ghost use Prim.Native.Nat.{_+_, _*_, _≤_};
+ghost use Prim.Native.Nat.{_+_, _≤_};
 ghost use lib.ListN.{length};
 ghost use Rattle.text.specs.Splice.{splice};
 ghost use Rattle.parse.specs.Places.{partAt};

@@ -1,20 +1,18 @@
 -- The fields of a row read part by part denote the row that reading gives. Assumes nothing.
-use mathlib.Core.Path.{_≡_, refl, sym, ap, _∙_}
-use mathlib.Core.List.{[]}
-use mathlib.Core.Option.{none, some}
-use Prim.Native.Nat.{ℕ, zero, suc, _+_, _-_, _<_, _≤_}
+use mathlib.Core.Path.{_≡_, refl, sym, _∙_}
+use Prim.Native.Nat.{ℕ, suc, _+_, _-_, _<_, _≤_}
 use native.Mathlib.Omega.{arith}
 use borrow.Author.Tests.{le-leb, lt-leb}
 use mir.Val.{Fits}
 use mir.Syntax.{w8}
-use lib.ListN.{length, take, drop, getD, length-drop}
+use lib.ListN.{length, drop, getD, length-drop}
 use lib.Seq.{drop-drop, getD-drop}
 use Rattle.meaning.specs.Bytes.{Text}
-use Rattle.meaning.specs.Number.{Step, took, no, Reader, stepThen, readNumber, readBytes, readText}
-use Rattle.meaning.specs.Rows.{Row, destinationAfter, readDestination, readRow}
+use Rattle.meaning.specs.Number.{took, no, Reader, stepThen, readNumber, readBytes, readText}
+use Rattle.meaning.specs.Rows.{Row, readDestination, readRow}
 use Rattle.number.specs.declared.Number.{Number}
 use Rattle.number.specs.declared.Number.the-variants.{Is, Malformed}
-use Rattle.number.specs.Reading.{Octets, numberAt, largestNumber}
+use Rattle.number.specs.Reading.{numberAt, largestNumber}
 use Rattle.number.proofs.Answers.{number-stands, number-none}
 use Rattle.number.proofs.Round.{read-small}
 use Rattle.order.specs.declared.fields.RowFields.{RowFields}

@@ -1,6 +1,5 @@
 -- A row read on after each of its parts.
 use Prim.Native.Nat.{ℕ}
-use mathlib.Core.Option.{Option}
 use Rattle.meaning.specs.Bytes.{Text}
 use Rattle.meaning.specs.Number.{Reader, _>>=_, give, readNumber, readBytes, readText}
 use Rattle.meaning.specs.Rows.{Row, destinationAfter, readDestination}
