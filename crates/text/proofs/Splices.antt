@@ -1,12 +1,12 @@
 -- Laws of `splice`: what is written after what was written. Assumes nothing.
 use mathlib.Core.Path.{_≡_, sym, ap, _∙_}
 use mathlib.Core.List.{[], _∷_, _++_, append-assoc}
-use Prim.Native.Nat.{ℕ, _+_, _≤_, _<_}
+use Prim.Native.Nat.{ℕ, _+_, _-_, _≤_, _<_}
 use native.Mathlib.Omega.{arith}
 use native.Mathlib.Nat.{add-assoc, add-zero, zero-add}
 use native.Mathlib.Numerals.{add-one}
 use lib.ListN.{length, set, take, drop, length-append, length-drop, take-append-drop}
-use lib.Seq.{length-take-le, take-at, drop-append-add, drop-drop, set-split, paste, take-length}
+use lib.Seq.{length-take-le, take-at, drop-append-add, drop-drop, set-split, paste, take-length, take-add}
 use Rattle.meaning.specs.Bytes.{Text}
 use Rattle.text.specs.Splice.{splice}
 
@@ -52,3 +52,40 @@ splice-byte d at b h = set-split d at b h ∙ ap (λ (n : ℕ). take at d ++ (b 
 pub splice-paste : (d : Text) (at : ℕ) (s : Text) (i : ℕ) → i ≡ length s → paste d at s i ≡ splice d at s
 unfolding splice
 splice-paste d at s i e = rw (e, take-length s) (append-assoc (take at d) s (drop (at + length s) d))
+
+-- what was written is written over from the same place on by a text that is no shorter
+pub splice-over : (d : Text) (p : ℕ) (u t : Text) → p + length t ≤ length d → length u ≤ length t → splice (splice d p u) p t ≡ splice d p t
+unfolding splice
+splice-over d p u t h m =
+    let k : p ≤ length d = omega arith in
+    let a = take p d in
+    let r = drop (p + length u) d in
+    let n = length t - length u in
+    let la : length a ≡ p = length-take-le p d k in
+    let e : p + length t ≡ length (a ++ u) + n = rw (length-append a u, la) (omega arith) in
+    let f : p + length u + n ≡ p + length t = omega arith in
+    let past : drop (p + length t) (a ++ (u ++ r)) ≡ drop (p + length t) d =
+    rw (← append-assoc a u r, e) (drop-append-add (a ++ u) r n) ∙ drop-drop n (p + length u) d ∙ ap (λ (q : ℕ). drop q d) f in
+    ap (λ (q : Text). q ++ (t ++ drop (p + length t) (a ++ (u ++ r)))) (take-at a (u ++ r) p la) ∙ ap (λ (q : Text). a ++ (t ++ q)) past
+
+-- k bytes more of s are written after its first i
+pub splice-more : (d s : Text) (at i k : ℕ) → at + length s ≤ length d → i + k ≤ length s → splice (splice d at (take i s)) (at + i) (take k (drop i s)) ≡ splice d at (take (i + k) s)
+splice-more d s at i k h m =
+    let l : length (take i s) ≡ i = length-take-le i s (omega arith) in
+    rw (take-add i k s) (splice-next d at (take i s) (take k (drop i s)) (at + i) (rw l (omega arith)) (rw l))
+
+-- of s the first i bytes are written, and then all from byte j on, which may be one of these
+pub splice-rest : (d s : Text) (at i j : ℕ) → at + length s ≤ length d → j ≤ i → i ≤ length s → splice (splice d at (take i s)) (at + j) (drop j s) ≡ splice d at s
+splice-rest d s at i j h m n =
+    let n' = i - j in
+    let e : j + n' ≡ i = omega arith in
+    let l : length (take j s) ≡ j = length-take-le j s (omega arith) in
+    let b : at + length (take j s) ≤ length d = rw l (omega arith) in
+    let w = splice d at (take j s) in
+    let lw : length w ≡ length d = length-splice d at (take j s) b in
+    let ld : length (drop j s) ≡ length s - j = length-drop j s in
+    let lt : length (take n' (drop j s)) ≡ n' = length-take-le n' (drop j s) (rw ld (omega arith)) in
+    ap (λ (q : Text). splice q (at + j) (drop j s)) (sym (rw e at (splice-more d s at j n' h (omega arith))))
+    ∙ splice-over w (at + j) (take n' (drop j s)) (drop j s) (rw (lw, ld) (omega arith)) (rw (lt, ld) (omega arith))
+    ∙ splice-next d at (take j s) (drop j s) (at + j) b (rw l)
+    ∙ ap (splice d at) (take-append-drop j s)

@@ -1,4 +1,4 @@
--- `text::put` meets its contract: after each turn one byte more of the copy stands, and the copy to its end is the splice.
+-- `text::copy::put_by_bytes` meets its contract: after each turn one byte more of the copy stands, and the copy to its end is the splice.
 use mathlib.Core.Path.{_≡_, refl, _∙_}
 use Prim.Native.Nat.{_+_, _-_, _<_, _≤_}
 use native.Mathlib.Numerals.{add-one}
@@ -7,8 +7,8 @@ use lib.ListN.{length, length-set}
 use lib.Seq.{paste, paste-zero, paste-suc}
 use denote.Ref.{now}
 use Rattle.text.proofs.Splices.{splice-paste}
-use Rattle.text.proofs.put.Statement.{statement}
-use Rattle.text.proofs.put.Tie as tie
+use Rattle.text.proofs.copy.put_by_bytes.Statement.{statement}
+use Rattle.text.proofs.copy.put_by_bytes.Tie as tie
 
 abbrev Inv-loop : tie.InvT-loop
 Inv-loop dst₀ at src i₀ dst i = (i ≤ length src) × (dst ≡ paste dst₀ at src i) × (length dst ≡ length dst₀)
@@ -58,8 +58,8 @@ returns c =
     let a = l .before .args in
     (l .loop .inv .1 ∙ splice-paste (now (a .dst)) (a .at) (now (a .src)) (l .loop .i) (omega arith), omega arith)
 
-pub put-spec : {M : Type 1} → statement M
-put-spec =
+pub put-by-bytes-spec : {M : Type 1} → statement M
+put-by-bytes-spec =
     tie.close
     (tie.spec
     Inv-loop
