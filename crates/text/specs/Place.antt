@@ -1,8 +1,8 @@
 -- Where a byte stands in a text.
 use mathlib.Core.Bool.{Bool, cond}
 use mathlib.Core.List.{[], _∷_}
-use Prim.Native.Nat.{ℕ, zero, suc}
-use lib.Dec.{eqb}
+use Prim.Native.Nat.{ℕ, zero, suc, _+_}
+use lib.Dec.{eqb, ltb}
 use Rattle.meaning.specs.Bytes.{Text, countIf}
 
 -- the place of the first b in s, or s's length where none is
@@ -19,3 +19,12 @@ pastNext here (suc n) = suc (suc n)
 abbrev pub pastLast : ℕ → Text → ℕ
 pastLast b [] = 0
 pastLast b (x ∷ s) = pastNext (eqb b x) (pastLast b s)
+
+-- the later of two places
+unfoldable pub later : ℕ → ℕ → ℕ
+later x y = cond (ltb x y) y x
+
+-- a place counted from k on, and not from 1; 0 is none
+abbrev pub countedFrom : ℕ → ℕ → ℕ
+countedFrom k zero = 0
+countedFrom k (suc n) = k + n

@@ -1,11 +1,13 @@
--- `text::past_last` meets its contract: the text up to each place passed, from the end, has the same last b.
+-- `text::past_last` meets its contract: the text up to each place passed, from the end, has the same last b, and the first sixteen bytes
+-- have what is left.
 use mathlib.Core.Path.{_≡_}
 use Prim.Native.Nat.{_≤_}
 use native.Mathlib.Omega.{arith}
 use borrow.Author.Needs.{needs}
 use lib.ListN.{length, take}
 use Rattle.text.specs.Place.{pastLast}
-use Rattle.text.proofs.Lasts.{last-whole, last-of-two, last-second, last-before-two, last-none, last-first, last-not-first}
+use Rattle.text.proofs.Lasts.{last-whole}
+use Rattle.text.proofs.Halves.{last-in-sixteen, last-before-sixteen, last-of-first}
 use Rattle.text.proofs.past_last.Statement.{statement}
 use Rattle.text.proofs.past_last.Tie as tie
 
@@ -15,29 +17,29 @@ Inv-loop s b i₀ i = (i ≤ length s) × (pastLast b (take i s) ≡ pastLast b 
 abbrev μ-loop : tie.MeasureT-loop
 μ-loop s b i₀ i = i
 
+past-last-by-bytes-requires : tie.Need-past-last-by-bytes-requires Inv-loop μ-loop
+past-last-by-bytes-requires c κs = search needs
+
+returns : tie.Need-returns Inv-loop μ-loop
+returns c = search needs
+
 loop-holds : tie.Need-loop-holds Inv-loop μ-loop
 loop-holds c = (omega arith, search last-whole)
 
-sub-if1 : tie.Need-sub-if1 Inv-loop μ-loop
-sub-if1 c = search needs
+sub-sixteen-last : tie.Need-sub-sixteen-last Inv-loop μ-loop
+sub-sixteen-last c = search needs
 
-shared-slice-read-if1 : tie.Need-shared-slice-read-if1 Inv-loop μ-loop
-shared-slice-read-if1 c = search needs
-
-returns : tie.Need-returns Inv-loop μ-loop
-returns c = (search last-of-two, search needs)
-
-sub-if2 : tie.Need-sub-if2 Inv-loop μ-loop
-sub-if2 c = search needs
-
-shared-slice-read-if2 : tie.Need-shared-slice-read-if2 Inv-loop μ-loop
-shared-slice-read-if2 c = search needs
+sixteen-last-requires : tie.Need-sixteen-last-requires Inv-loop μ-loop
+sixteen-last-requires c κs = search needs
 
 sub-result : tie.Need-sub-result Inv-loop μ-loop
 sub-result c = search needs
 
+add-result : tie.Need-add-result Inv-loop μ-loop
+add-result c = search needs
+
 returns-2 : tie.Need-returns-2 Inv-loop μ-loop
-returns-2 c = (search last-second, search needs)
+returns-2 c = (search last-in-sixteen, search needs)
 
 sub-i : tie.Need-sub-i Inv-loop μ-loop
 sub-i c = search needs
@@ -46,19 +48,13 @@ loop-less : tie.Need-loop-less Inv-loop μ-loop
 loop-less c = search needs
 
 loop-again : tie.Need-loop-again Inv-loop μ-loop
-loop-again c = (search needs, search last-before-two)
+loop-again c = (search needs, search last-before-sixteen)
+
+sixteen-last-requires-2 : tie.Need-sixteen-last-requires-2 Inv-loop μ-loop
+sixteen-last-requires-2 c κs = search needs
 
 returns-3 : tie.Need-returns-3 Inv-loop μ-loop
-returns-3 c = (search last-none, omega arith)
-
-shared-slice-read-if4 : tie.Need-shared-slice-read-if4 Inv-loop μ-loop
-shared-slice-read-if4 c = search needs
-
-returns-4 : tie.Need-returns-4 Inv-loop μ-loop
-returns-4 c = (search last-first, omega arith)
-
-returns-5 : tie.Need-returns-5 Inv-loop μ-loop
-returns-5 c = (search last-not-first, omega arith)
+returns-3 c = (search last-of-first, omega arith)
 
 pub past-last-spec : {M : Type 1} → statement M
 past-last-spec =
@@ -66,18 +62,16 @@ past-last-spec =
     (tie.spec
     Inv-loop
     μ-loop
-    loop-holds
-    sub-if1
-    shared-slice-read-if1
+    past-last-by-bytes-requires
     returns
-    sub-if2
-    shared-slice-read-if2
+    loop-holds
+    sub-sixteen-last
+    sixteen-last-requires
     sub-result
+    add-result
     returns-2
     sub-i
     loop-less
     loop-again
-    returns-3
-    shared-slice-read-if4
-    returns-4
-    returns-5)
+    sixteen-last-requires-2
+    returns-3)
