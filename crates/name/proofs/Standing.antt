@@ -11,15 +11,16 @@ use lib.ListN.{length, getD, drop}
 use lib.Seq.{drop-drop}
 use Rattle.meaning.specs.Bytes.{Text, star, _and_, _or_, countIf, count}
 use Rattle.meaning.specs.Names.{ruleFourByte, ruleFiveByte, notAt}
+use Rattle.promises.proofs.Laws.{and-left, and-right}
 use Rattle.text.proofs.Classes.{atSpan, span}
 use Rattle.text.proofs.Rests.{rest-cons, rest-end}
 use Rattle.name.specs.declared.NameKind.{NameKind}
 use Rattle.name.specs.declared.NameKind.the-variants.{Name, Pattern, Neither}
-use Rattle.name.specs.Rules.{nameByte, letter, digit, afterDot, afterSlash, afterAt, stands, standing, kindByStars, kindOf}
+use Rattle.name.specs.Rules.{nameByte, letter, capital, digit, afterDot, afterSlash, afterAt, stands, standing, kindByStars, kindOf}
 use Rattle.name.proofs.Tails.{tails}
 use Rattle.name.proofs.Stars.{starOrStands, side-row}
 
--- ---- letters and digits
+-- ---- letters, capitals and digits
 
 -- a byte that stands whatever follows it
 abbrev anywhere : ℕ → Bool
@@ -35,24 +36,20 @@ anywhere-stands x s e = go (eqb 46 x) (eqb 47 x) (eqb 64 x) e
     go false false true e = absurd (true≢false e)
     go false false false e = sym e
 
-first-true : (a b : Bool) → (a and b) ≡ true → a ≡ true
-first-true true b e = refl
-first-true false b e = e
-
-second-true : (a b : Bool) → (a and b) ≡ true → b ≡ true
-second-true true b e = e
-second-true false b e = absurd (true≢false (sym e))
-
 -- a number of a range of which each stands so does
 range-anywhere : (lo n x : ℕ) → T (atSpan anywhere true [] lo (suc n)) → (leb lo x and leb x (lo + n)) ≡ true → true ≡ anywhere x
 range-anywhere lo n x t e =
-    let l = leb-true lo x (first-true (leb lo x) (leb x (lo + n)) e) in
-    let h = leb-true x (lo + n) (second-true (leb lo x) (leb x (lo + n)) e) in
+    let l = leb-true lo x (and-left (leb lo x) (leb x (lo + n)) e) in
+    let h = leb-true x (lo + n) (and-right (leb lo x) (leb x (lo + n)) e) in
     span anywhere true [] lo (suc n) t x l (omega arith) (λ z. z)
 
-letter-stands : (x : ℕ) (s : Text) → letter x ≡ true → stands x s ≡ true
+pub letter-stands : (x : ℕ) (s : Text) → letter x ≡ true → stands x s ≡ true
 unfolding letter nameByte ruleFourByte ruleFiveByte
 letter-stands x s e = anywhere-stands x s (range-anywhere 97 25 x tt e)
+
+pub capital-stands : (x : ℕ) (s : Text) → capital x ≡ true → stands x s ≡ true
+unfolding capital nameByte ruleFourByte ruleFiveByte
+capital-stands x s e = anywhere-stands x s (range-anywhere 65 25 x tt e)
 
 pub digit-stands : (x : ℕ) (s : Text) (r : Bool) → r ≡ digit x → r ≡ true → true ≡ stands x s
 unfolding digit nameByte ruleFourByte ruleFiveByte
@@ -106,7 +103,7 @@ tails-skip (x ∷ s) = go (stands x s) refl (tails-skip s)
     go false e r = refl
 
 -- no star stands
-stands-star : (s : Text) → stands star s ≡ false
+pub stands-star : (s : Text) → stands star s ≡ false
 unfolding stands nameByte ruleFourByte ruleFiveByte
 stands-star s = refl
 

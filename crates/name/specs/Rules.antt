@@ -1,8 +1,9 @@
 -- The rules as one look decides them, at each byte and at what comes after it.
-use mathlib.Core.Bool.{Bool, not, cond}
+use mathlib.Core.Bool.{Bool, true, false, not, cond}
 use mathlib.Core.List.{[], _∷_}
 use Prim.Native.Nat.{ℕ, zero, suc}
 use lib.Dec.{eqb, leb}
+use lib.ListN.{getD}
 use Rattle.meaning.specs.Bytes.{Text, bytes, star, _and_, _or_, empty, same, begins, count}
 use Rattle.meaning.specs.Names.{ruleFourByte, ruleFiveByte, sidePasses}
 use Rattle.name.specs.declared.NameKind.{NameKind}
@@ -15,6 +16,10 @@ nameByte b = ruleFourByte b and ruleFiveByte b and not (eqb 92 b)
 -- a small letter
 unfoldable pub letter : ℕ → Bool
 letter b = leb 97 b and leb b 122
+
+-- a capital
+unfoldable pub capital : ℕ → Bool
+capital b = leb 65 b and leb b 90
 
 -- a digit
 unfoldable pub digit : ℕ → Bool
@@ -44,6 +49,20 @@ stands x s = cond (eqb 46 x) (afterDot s) (cond (eqb 47 x) (afterSlash s) (cond 
 abbrev pub standing : Text → ℕ
 standing [] = 0
 standing (x ∷ s) = cond (stands x s) (suc (standing s)) 0
+
+-- a small letter, a capital, a digit, a hyphen or a slash
+unfoldable pub plain : ℕ → Bool
+plain b = (((letter b or capital b) or digit b) or eqb b 45) or eqb b 47
+
+-- such a byte before a text that begins with c; a slash stands before neither a dot nor a slash
+unfoldable pub fits : ℕ → ℕ → Bool
+fits b c = plain b and not (eqb b 47 and (leb 46 c and leb c 47))
+
+-- each of the first n bytes of a text fits before the next
+abbrev pub fitting : ℕ → Text → Bool
+fitting zero s = true
+fitting (suc n) [] = false
+fitting (suc n) (x ∷ s) = fits x (getD s 0 0) and fitting n s
 
 -- what a text that passes is by the number of its stars
 abbrev pub kindByStars : ℕ → NameKind

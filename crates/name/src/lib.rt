@@ -1,11 +1,11 @@
 // The rules of git-check-ref-format with --allow-onelevel, as the manual numbers them: which bytes a name has, and what follows each.
 ghost use mathlib.Core.Path.{_≡_};
-ghost use mathlib.Core.Bool.{not};
+ghost use mathlib.Core.Bool.{true, not};
 ghost use Prim.Native.Nat.{_+_, _<_, _≤_};
 ghost use lib.ListN.{length, getD, drop};
 ghost use Rattle.meaning.specs.Bytes.{_and_};
 ghost use Rattle.meaning.specs.Names.{notAt, namePasses, sidePasses};
-ghost use Rattle.name.specs.Rules.{nameByte, letter, digit, restOfLock, afterDot, afterSlash, afterAt, stands, standing, kindOf};
+ghost use Rattle.name.specs.Rules.{nameByte, letter, digit, restOfLock, afterDot, afterSlash, afterAt, stands, standing, plain, fits, fitting, kindOf};
 
 // What a text is by the rules: a name, a pattern with one star, or neither.
 pub enum NameKind {
@@ -126,6 +126,93 @@ fn past_letters(s: &[u8], from: usize) -> usize
     i
 }
 
+// A small letter, a capital, a digit, a hyphen or a slash.
+fn plain(b: u8) -> bool
+    ensures { λ r. ⌜ r ≡ plain b ⌝ }
+{
+    ((b'a' <= b) & (b <= b'z'))
+        | ((b'A' <= b) & (b <= b'Z'))
+        | ((b'0' <= b) & (b <= b'9'))
+        | (b == b'-')
+        | (b == b'/')
+}
+
+// b is plain, and stands before whatever begins with c: a slash before neither a dot nor a slash.
+fn fits(b: u8, c: u8) -> bool
+    ensures { λ r. ⌜ r ≡ fits b c ⌝ }
+{
+    plain(b) & !((b == b'/') & ((b'.' <= c) & (c <= b'/')))
+}
+
+// Sixteen bytes from i on fit, each before the next. All are asked without a branch, so that the compiler asks them at once.
+fn sixteen_fit(s: &[u8], i: usize) -> bool
+    requires { ⌜ i + 16 < length (now s) ⌝ }
+    ensures { λ r. ⌜ r ≡ fitting 16 (drop i (now (s .entry))) ⌝ }
+{
+    let mut all = true;
+    let mut k = 0;
+    while k < 16 {
+        all = all & fits(s[i + k], s[i + k + 1]);
+        k += 1;
+    }
+    all
+}
+
+// The same of eight bytes.
+fn eight_fit(s: &[u8], i: usize) -> bool
+    requires { ⌜ i + 8 < length (now s) ⌝ }
+    ensures { λ r. ⌜ r ≡ fitting 8 (drop i (now (s .entry))) ⌝ }
+{
+    let mut all = true;
+    let mut k = 0;
+    while k < 8 {
+        all = all & fits(s[i + k], s[i + k + 1]);
+        k += 1;
+    }
+    all
+}
+
+// The first m bytes fit, of which there are eight to fifteen: the last eight of them, and the first eight.
+fn eights_fit(s: &[u8], m: usize) -> bool
+    requires { ⌜ (8 ≤ m) × (m < 16) × (m < length (now s)) ⌝ }
+    ensures { λ r. ⌜ (r ≡ true → fitting m (now (s .entry)) ≡ true) ⌝ }
+{
+    if !eight_fit(s, m - 8) {
+        return false;
+    }
+    eight_fit(s, 0)
+}
+
+// The first m bytes fit, of which there are sixteen at least: the last sixteen of them, and each sixteen before.
+fn sixteens_fit(s: &[u8], m: usize) -> bool
+    requires { ⌜ (16 ≤ m) × (m < length (now s)) ⌝ }
+    ensures { λ r. ⌜ (r ≡ true → fitting m (now (s .entry)) ≡ true) ⌝ }
+{
+    let last = m - 16;
+    if !sixteen_fit(s, last) {
+        return false;
+    }
+    let mut i = 0;
+    while i < last {
+        if !sixteen_fit(s, i) {
+            return false;
+        }
+        i += 16;
+    }
+    true
+}
+
+// The first m bytes fit, of which there are eight at least.
+fn all_fit(s: &[u8], m: usize) -> bool
+    requires { ⌜ (8 ≤ m) × (m < length (now s)) ⌝ }
+    ensures { λ r. ⌜ (r ≡ true → fitting m (now (s .entry)) ≡ true) ⌝ }
+{
+    if m < 16 {
+        return eights_fit(s, m);
+    }
+    sixteens_fit(s, m)
+}
+
 // The first place from `from` on whose byte does not stand, or the length.
 fn past_standing(s: &[u8], from: usize) -> usize
     requires { ⌜ from ≤ length (now s) ⌝ }
@@ -179,8 +266,8 @@ pub fn name_partial(s: &[u8]) -> bool
     past_standing(s, 0) == s.len()
 }
 
-// Which of the two a text is, in one look.
-pub fn kind(s: &[u8]) -> NameKind
+// Which of the two a text is, byte by byte.
+fn kind_by_bytes(s: &[u8]) -> NameKind
     ensures { λ r. ⌜ r ≡ kindOf (now (s .entry)) ⌝ }
 {
     if !opens(s) {
@@ -197,4 +284,27 @@ pub fn kind(s: &[u8]) -> NameKind
         return NameKind::Pattern;
     }
     NameKind::Neither
+}
+
+// Which of the two a text is, in one look. Most are of plain bytes, with a star at the end or none.
+pub fn kind(s: &[u8]) -> NameKind
+    ensures { λ r. ⌜ r ≡ kindOf (now (s .entry)) ⌝ }
+{
+    if s.len() < 9 {
+        return kind_by_bytes(s);
+    }
+    let last = s.len() - 1;
+    if !all_fit(s, last) {
+        return kind_by_bytes(s);
+    }
+    if s[0] == b'/' {
+        return kind_by_bytes(s);
+    }
+    if s[last] == b'*' {
+        return NameKind::Pattern;
+    }
+    if !fits(s[last], b'/') {
+        return kind_by_bytes(s);
+    }
+    NameKind::Name
 }
