@@ -8,13 +8,13 @@ use lib.ListN.{length}
 use Rattle.meaning.specs.Bytes.{Text}
 use Rattle.meaning.specs.Buffers.{orZero}
 use Rattle.meaning.specs.Spec.{Answer, accepted, refused, Spec}
-use Rattle.meaning.specs.Lists.{readItems}
+use Rattle.meaning.specs.Lists.{readSpecs, readItems}
 use Rattle.meaning.specs.Rows.{readRows}
 use Rattle.list.specs.declared.items.Checked.{Checked}
 use Rattle.list.specs.declared.specs.Group.{Group}
 use Rattle.list.specs.Checked.{checked}
 use Rattle.list.specs.Group.{GroupIs, GroupRead}
-use Rattle.list.proofs.Refusals.{items-refusal, rows-refusal}
+use Rattle.list.proofs.Refusals.{specs-refusal, items-refusal, rows-refusal}
 
 -- the records that were accepted, so many
 pub record Passed {A : Type 0} (a : Answer (List A)) (count : ℕ) : Type 0 where
@@ -47,6 +47,14 @@ module _ {A : Type 0} (a : Answer (List A)) (positive : (n : ℕ) (r : Option �
       go (refused n r) f =
           let q : c .refusal ≡ n = ap (λ (k : Checked). k .refusal) (e ∙ ap checked f) in
           record { carried = r; answer = rw q f; number = ap (λ (k : Checked). k .«record») (e ∙ ap checked f) }
+
+-- a spec list of which no spec is kept
+module _ (op : ℕ) (s : Text) (c : Checked) (e : c ≡ checked (readSpecs op s)) where
+  pub specs-passed : c .refusal ≡ 0 → Passed (readSpecs op s) (c .count)
+  specs-passed = passed (readSpecs op s) (specs-refusal op s) c e
+
+  pub specs-failed : (c .refusal ≡ 0 → ⊥) → Failed (readSpecs op s) (c .refusal) (c .«record»)
+  specs-failed = failed (readSpecs op s) (specs-refusal op s) c e
 
 -- an item list
 module _ (s : Text) (c : Checked) (e : c ≡ checked (readItems s)) where

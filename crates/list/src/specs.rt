@@ -7,9 +7,11 @@ ghost use Rattle.meaning.specs.Limits.{listBytes};
 ghost use Rattle.meaning.specs.Lists.{specRecord, readSpecs};
 ghost use Rattle.promises.specs.Facts.{records};
 ghost use Rattle.parse.specs.Places.{Within, SidesWithin};
+ghost use Rattle.list.specs.Checked.{checked};
 ghost use Rattle.list.specs.Group.{shiftedSide, shifted, SpecIn, SpecSays, GroupRefused, GroupRead};
 use super::cursor::Cursor;
 use super::cursor::Step;
+use super::items::Checked;
 use parse::Parsed;
 use parse::types::Mode;
 use parse::types::RefSpec;
@@ -167,4 +169,56 @@ pub fn read_specs(op: u64, list: &[u8]) -> Group
         return refused(12);
     }
     each_spec(op, list)
+}
+
+// The records of a spec list, one after the other, none of them kept.
+fn each_checked(op: u64, list: &[u8]) -> Checked
+    requires { ⌜ length (now list) ≤ listBytes ⌝ }
+    ensures { λ r. ⌜ r ≡ checked (records (specRecord op) 0 (now (list .entry))) ⌝ }
+{
+    let mut c = Cursor::new();
+    let mut count: usize = 0;
+    loop {
+        match spec_at(op, list, c, count) {
+            SpecStep::Spec { spec: _, next } => {
+                c = next;
+                count += 1;
+            }
+            SpecStep::End => {
+                return Checked {
+                    refusal: 0,
+                    record: 0,
+                    count,
+                };
+            }
+            SpecStep::Refused(n) => {
+                return Checked {
+                    refusal: n,
+                    record: count as u64,
+                    count: 0,
+                };
+            }
+        }
+    }
+}
+
+// Reads a spec list for an operation without keeping its specs: how many there are, or the refusal.
+pub fn check_specs(op: u64, list: &[u8]) -> Checked
+    ensures { λ r. ⌜ r ≡ checked (readSpecs op (now (list .entry))) ⌝ }
+{
+    if 1 < op {
+        return Checked {
+            refusal: 18,
+            record: 0,
+            count: 0,
+        };
+    }
+    if LIST_BYTES < list.len() {
+        return Checked {
+            refusal: 12,
+            record: 0,
+            count: 0,
+        };
+    }
+    each_checked(op, list)
 }

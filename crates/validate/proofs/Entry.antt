@@ -16,10 +16,8 @@ use Rattle.promises.proofs.Buffers.{meets-two-refused, meets-two-short-first, m
 use Rattle.text.specs.Splice.{splice}
 use Rattle.text.proofs.Splices.{splice-start}
 use Rattle.list.specs.declared.items.Checked.{Checked}
-use Rattle.list.specs.declared.specs.Group.{Group}
 use Rattle.list.specs.Checked.{checked}
-use Rattle.list.specs.Group.{GroupRead}
-use Rattle.list.proofs.Told.{rows-passed, rows-failed, GroupPassed, group-passed, group-failed}
+use Rattle.list.proofs.Told.{Passed, specs-passed, specs-failed, rows-passed, rows-failed}
 use Rattle.conflicts.specs.Listed.{rowsIn, RowsRead, conflictsBytes}
 use Rattle.conflicts.proofs.Wholes.{bytes-exactly}
 use Rattle.validate.specs.declared.Validation.{Validation}
@@ -86,20 +84,20 @@ both-read : (op : ℕ) (specs rows : Text) (group : List Spec) (list : List Row)
 unfolding validated verdictOn
 both-read op specs rows group list e f = rw (e, f)
 
-module _ (op : ℕ) (specs rows d f : Text) (g : Group) (eg : GroupRead specs g (readSpecs op specs)) where
+module _ (op : ℕ) (specs rows d f : Text) (g : Checked) (eg : g ≡ checked (readSpecs op specs)) where
   pub specs-refused : (g .refusal ≡ 0 → ⊥) → (w : Validation) → w ≡ refusedWith (g .refusal) (g .«record») → MeetsTwo (validated op specs rows) d f d f (w .refusal) (w .«record») (w .conflicts) (w .length) (w .«fixes_length») (w .buffer)
   specs-refused z w e =
-      let q = group-failed specs g (readSpecs op specs) eg z in
+      let q = specs-failed op specs g eg z in
       rw e (meets-two-refused (validated op specs rows) d f d f (g .refusal) (q .carried) (g .refusal) (g .«record») 0 0 0 0 (specs-turned op specs rows (g .refusal) (q .carried) (q .answer)) refl refl refl (q .number) refl refl refl refl)
 
   module _ (zg : g .refusal ≡ 0) (c : Checked) (ec : c ≡ checked (readRows (g .count) rows)) where
-    specs-read : GroupPassed specs g (readSpecs op specs)
-    specs-read = group-passed specs g (readSpecs op specs) eg zg
+    specs-read : Passed (readSpecs op specs) (g .count)
+    specs-read = specs-passed op specs g eg zg
 
     pub rows-refused : (c .refusal ≡ 0 → ⊥) → (w : Validation) → w ≡ refusedWith (c .refusal) (c .«record») → MeetsTwo (validated op specs rows) d f d f (w .refusal) (w .«record») (w .conflicts) (w .length) (w .«fixes_length») (w .buffer)
     rows-refused z w e =
         let q = rows-failed (g .count) rows c ec z in
-        let a : readRows (length (specs-read .members)) rows ≡ refused (c .refusal) (q .carried) = rw (← specs-read .is .count-is) (q .answer) in
+        let a : readRows (length (specs-read .members)) rows ≡ refused (c .refusal) (q .carried) = rw (← specs-read .counted) (q .answer) in
         rw e
         (meets-two-refused (validated op specs rows) d f d f (c .refusal) (q .carried) (c .refusal) (c .«record») 0 0 0 0
         (rows-turned op specs rows (specs-read .members) (c .refusal) (q .carried) (specs-read .answer) a) refl refl refl (q .number) refl refl refl refl)
@@ -107,7 +105,7 @@ module _ (op : ℕ) (specs rows d f : Text) (g : Group) (eg : GroupRead specs g 
     pub rows-judged : c .refusal ≡ 0 → (o p : Text) (w t m u v b : ℕ) → MeetsTwo (accepted (verdictBytes (verdict (rowsIn (g .count) rows)))) d f o p w t m u v b → MeetsTwo (validated op specs rows) d f o p w t m u v b
     rows-judged z o p w t m u v b k =
         let q = rows-passed (g .count) rows c ec z in
-        let a : readRows (length (specs-read .members)) rows ≡ accepted (q .members) = rw (← specs-read .is .count-is) (q .answer) in
+        let a : readRows (length (specs-read .members)) rows ≡ accepted (q .members) = rw (← specs-read .counted) (q .answer) in
         let r : rowsIn (g .count) rows ≡ q .members = rw (q .answer) in
         rw (both-read op specs rows (specs-read .members) (q .members) (specs-read .answer) a, ← r) k
 

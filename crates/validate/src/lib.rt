@@ -17,7 +17,7 @@ use kept::kept_size;
 use kept::put_fixes;
 use kept::put_kept;
 use list::rows::read_rows;
-use list::specs::read_specs;
+use list::specs::check_specs;
 
 // What a call tells beside its buffers: a refusal's number or 0; the record that it carries; 1 where the first buffer holds conflicts; how
 // many bytes it holds, or beside 17 the length for the short buffer; how many the fix buffer holds; and beside 17 the short buffer, 1 the
@@ -112,10 +112,9 @@ fn judged(rows: &[u8], specs: usize, out: &mut [u8], fixes: &mut [u8]) -> Valida
 pub fn validated(op: u64, specs: &[u8], rows: &[u8], out: &mut [u8], fixes: &mut [u8]) -> Validation
     ensures { λ w. ⌜ MeetsTwo (validated op (now (specs .entry)) (now (rows .entry))) (now (out .entry)) (now (fixes .entry)) (now (out .exit)) (now (fixes .exit)) (w .refusal) (w .record) (w .conflicts) (w .length) (w .«fixes_length») (w .buffer) ⌝ }
 {
-    let g = read_specs(op, specs);
-    let refusal = g.refusal;
-    if refusal != 0 {
-        return refused(refusal, g.record);
+    let g = check_specs(op, specs);
+    if g.refusal != 0 {
+        return refused(g.refusal, g.record);
     }
     let n = g.count;
     let c = read_rows(rows, n);

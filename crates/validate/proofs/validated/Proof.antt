@@ -4,12 +4,12 @@ use borrow.Author.Needs.{needs}
 use Rattle.validate.proofs.validated.Statement.{statement}
 use Rattle.validate.proofs.validated.Tie as tie
 use Rattle.list.proofs.rows.read_rows.Reads as read-rows-reads
-use Rattle.list.proofs.specs.read_specs.Reads as read-specs-reads
+use Rattle.list.proofs.specs.check_specs.Reads as check-specs-reads
 use Rattle.validate.proofs.judged.Reads as judged-reads
 use Rattle.validate.proofs.refused.Reads as refused-reads
 
-read-specs-requires : tie.Need-read-specs-requires
-read-specs-requires c κs = search needs
+check-specs-requires : tie.Need-check-specs-requires
+check-specs-requires c κs = search needs
 
 refused-requires : tie.Need-refused-requires
 refused-requires c κs = search needs
@@ -27,7 +27,7 @@ returns-2 : tie.Need-returns-2
 returns-2 c = search rows-refused
 
 judged-requires : tie.Need-judged-requires
-judged-requires c κs = search rows-read
+judged-requires c κs = rows-read _ _ _ (c .before .before .before .before .read-rows .ensures) (c .before .before .if2 .left)
 
 same-length : tie.Need-same-length
 same-length c = search needs
@@ -42,7 +42,7 @@ pub validated-spec : {M : Type 1} → statement M
 validated-spec =
     tie.close
     (tie.spec
-    read-specs-requires
+    check-specs-requires
     refused-requires
     returns
     read-rows-requires
