@@ -20,11 +20,11 @@ use Rattle.order.specs.Keys.{stretch, rowOr, rowAt, Finds}
 use Rattle.order.specs.Stages.{afterNumber, afterSource, afterLength, afterKind, afterSpec, afterItem}
 
 -- the next n bytes, where there are as many, and where there are fewer
-bytes-taken : (s : Text) (at n : ℕ) → at + n ≤ length s → readBytes n (drop at s) ≡ took (stretch s at n) (drop (at + n) s)
+pub bytes-taken : (s : Text) (at n : ℕ) → at + n ≤ length s → readBytes n (drop at s) ≡ took (stretch s at n) (drop (at + n) s)
 unfolding readBytes
 bytes-taken s at n h = let k : n ≤ length (drop at s) = rw (length-drop at s) (omega arith) in rw (le-leb n (length (drop at s)) k, drop-drop n at s)
 
-bytes-short : (s : Text) (at n : ℕ) → length s - at < n → readBytes n (drop at s) ≡ no 13
+pub bytes-short : (s : Text) (at n : ℕ) → length s - at < n → readBytes n (drop at s) ≡ no 13
 unfolding readBytes
 bytes-short s at n h = let k : length (drop at s) < n = rw (length-drop at s) h in rw (lt-leb n (length (drop at s)) k)
 

@@ -1,7 +1,9 @@
--- A row read on after each of its parts.
+-- A row read on after each of its parts, and what a part leaves.
 use Prim.Native.Nat.{ℕ}
-use Rattle.meaning.specs.Bytes.{Text}
-use Rattle.meaning.specs.Number.{Reader, _>>=_, give, readNumber, readBytes, readText}
+use mathlib.Core.List.{[]}
+use mathlib.Core.Option.{Option}
+use Rattle.meaning.specs.Bytes.{Text, orEmpty}
+use Rattle.meaning.specs.Number.{Step, took, no, Reader, _>>=_, give, readNumber, readBytes, readText}
 use Rattle.meaning.specs.Rows.{Row, destinationAfter, readDestination}
 
 -- after the number n of its destination
@@ -27,3 +29,13 @@ afterSpec i sp = readNumber >>= afterKind i sp
 -- after its item field
 unfoldable pub afterItem : ℕ → Reader Row
 afterItem i = readNumber >>= afterSpec i
+
+-- what is left after a part; nothing where it was refused
+abbrev pub left : {A : Type 0} → Step A → Text
+left (took a rest) = rest
+left (no n) = []
+
+-- a destination that was read; nothing where it was refused, or where there is none
+abbrev pub destinationOr : Step (Option Text) → Text
+destinationOr (took d rest) = orEmpty d
+destinationOr (no n) = []
