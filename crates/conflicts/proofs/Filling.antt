@@ -2,23 +2,15 @@
 use mathlib.Core.Path.{_≡_, refl, sym, ap, _∙_}
 use mathlib.Core.Bool.{Bool, true, false, cond}
 use mathlib.Core.List.{List, [], _∷_, _++_}
-use mathlib.Core.Option.{Option, none, some}
 use Prim.Native.Nat.{ℕ, zero, suc, _+_, _-_, _*_, _≤_, _<_}
 use native.Mathlib.Numerals.{add-one}
 use native.Mathlib.Omega.{arith}
-use borrow.Author.Tests.{lt-ltb}
-use mir.Val.{Fits}
-use mir.Syntax.{w8}
-use lib.ListN.{length, getD, take, drop, set, length-set, length-append, length-drop}
-use lib.Seq.{take-suc-set, getD-drop, length-take-le}
-use Rattle.meaning.specs.Bytes.{Text, _and_, every, keep, present}
-use Rattle.meaning.specs.Number.{took, need, give, numberBytes, textBytes}
+use lib.ListN.{length, take, drop, set, length-set, length-drop}
+use lib.Seq.{take-suc-set, length-take-le}
+use Rattle.meaning.specs.Bytes.{Text, keep, present}
+use Rattle.meaning.specs.Number.{took, need, give}
 use Rattle.meaning.specs.Rows as meaning
-use Rattle.promises.specs.Facts.{isByte}
-use Rattle.promises.proofs.Laws.{and-both}
 use Rattle.promises.proofs.Members.{step-took}
-use Rattle.promises.proofs.Reading.{number-long}
-use Rattle.promises.proofs.Spelling.{row-record-spelled}
 use Rattle.parse.specs.declared.types.Side.{Side}
 use Rattle.parse.specs.declared.types.Side.the-variants.{Absent, Part, Head}
 use Rattle.parse.specs.Places.{sideMeant}
@@ -31,7 +23,7 @@ use Rattle.order.specs.Sorting.{Above, Ascending}
 use Rattle.order.specs.Keys.{rowOr, rowAt}
 use Rattle.conflicts.specs.Listed.{rowsIn, RowsRead, InList}
 use Rattle.conflicts.specs.Indexed.{rowsAt, hasDestination, Given, Indexed, Stored}
-use Rattle.conflicts.proofs.Walks.{list-short, At, at-start, next-row, next-destination, moves-on, end-row, refused-row, taken}
+use Rattle.conflicts.proofs.Walks.{At, at-start, next-row, next-destination, moves-on, end-row, refused-row, taken}
 
 -- a place as it is stored
 pub pushed : (d : List ℕ) (n at r : ℕ) → r ≡ at → set d n r ≡ set d n at
@@ -48,41 +40,7 @@ module _ (dst : Side) (w : InList 1048576 dst) (d : List ℕ) (n at : ℕ) where
   pub store-head : dst ≡ Head → Stored d n at dst d n
   store-head e = absurd (rw e at w)
 
--- a row takes five bytes at least
-destination-long : (o : Option Text) → 0 < length (meaning.destinationBytes o)
-destination-long none = number-long 0
-destination-long (some t) = omega (arith, number-long (suc (length t)), length-append (numberBytes (suc (length t))) t)
-
-row-long : (r : meaning.Row) → 5 ≤ length (meaning.rowBytes r)
-unfolding meaning.rowBytes textBytes
-row-long r =
-    let d = meaning.destinationBytes (r .destination) in
-    let t = numberBytes (length (r .source)) ++ r .source in
-    omega (
-      arith,
-      number-long (r .item),
-      number-long (r .spec),
-      number-long (r .kind),
-      number-long (length (r .source)),
-      destination-long (r .destination),
-      length-append (numberBytes (r .item)) (numberBytes (r .spec) ++ (numberBytes (r .kind) ++ (t ++ d))),
-      length-append (numberBytes (r .spec)) (numberBytes (r .kind) ++ (t ++ d)),
-      length-append (numberBytes (r .kind)) (t ++ d),
-      length-append t d,
-      length-append (numberBytes (length (r .source))) (r .source),
-    )
-
-all-bytes : (s : Text) → ((i : ℕ) → Fits w8 (getD s i 0)) → every isByte s ≡ true
-all-bytes [] o = refl
-all-bytes (x ∷ s) o = and-both (lt-ltb x 256 (omega (arith, o 0))) (all-bytes s (λ i. o (suc i)))
-
 module _ (specs : ℕ) (s : Text) (at : ℕ) (row : RowPlace) (next : ℕ) (t : RowTaken specs s at row next) where
-  five-on : ((i : ℕ) → Fits w8 (getD s i 0)) → at + 5 ≤ next
-  five-on o =
-      let bytes = all-bytes (drop at s) (λ i. rw (getD-drop at s i 0) (o (at + i))) in
-      let q = row-record-spelled specs 0 (drop at s) (rowMeant s row) (drop next s) bytes (t .reads 0) in
-      omega (arith, row-long (rowMeant s row), ap length q, length-append (meaning.rowBytes (rowMeant s row)) (drop next s), length-drop at s, length-drop next s, t .here, t .within)
-
   -- the row that was taken is the one that begins there
   row-there : rowAt s at ≡ rowMeant s row
   unfolding rowAt meaning.rowRecord
@@ -151,7 +109,7 @@ append-none (x ∷ l) = ap (λ k. x ∷ k) (append-none l)
 pub record Filling (specs : ℕ) (s : Text) (d₀ d : List ℕ) (at n : ℕ) : Type 0 where
   pub passed : ℕ
   pub here : At specs s at passed
-  pub room : 5 * passed ≤ at
+  pub some-left : passed ≤ length (rowsIn specs s)
   pub few : n ≤ passed
   pub same-long : length d ≡ length d₀
   pub rows-are : rowsAt s (take n d) ≡ keep hasDestination (take passed (rowsIn specs s))
@@ -161,33 +119,38 @@ pub record Filling (specs : ℕ) (s : Text) (d₀ d : List ℕ) (at n : ℕ) : T
 
 pub filling-starts : (specs : ℕ) (s : Text) → RowsRead specs s → (d : List ℕ) (at : ℕ) → at ≡ 0 → Filling specs s d d at 0
 filling-starts specs s r d at e =
-    record { passed = 0; here = at-start specs s r at e; room = omega arith; few = omega arith; same-long = refl; rows-are = refl; given = tt; ascends = tt; under = tt }
+    record { passed = 0; here = at-start specs s r at e; some-left = omega arith; few = omega arith; same-long = refl; rows-are = refl; given = tt; ascends = tt; under = tt }
 
 module _ (specs : ℕ) (s : Text) (d₀ d : List ℕ) (at n : ℕ) (m : Filling specs s d₀ d at n) (w : RowStep) (stands : w ≡ rowStepAt specs s at) (says : RowSays specs s at w) where
-  whole : length s ≤ 5 * length d₀ → drop (m .passed) (rowsIn specs s) ≡ [] → Indexed specs s (take n d) × (n ≤ length d₀)
+  whole : length (rowsIn specs s) ≤ length d₀ → drop (m .passed) (rowsIn specs s) ≡ [] → Indexed specs s (take n d) × (n ≤ length d₀)
   whole h e = (
     record { rows-are = m .rows-are ∙ ap (keep hasDestination) (take-past (rowsIn specs s) (m .passed) e); given = m .given; ascends = m .ascends },
-    omega (arith, m .room, m .few, m .here .left .within),
+    omega (arith, m .few, m .some-left),
   )
 
-  pub filling-done : length s ≤ 5 * length d₀ → w ≡ End → Indexed specs s (take n d)
+  pub filling-done : length (rowsIn specs s) ≤ length d₀ → w ≡ End → Indexed specs s (take n d)
   filling-done h e = whole h (end-row specs s at (m .passed) (m .here) w stands says e) .0
 
-  pub filling-few : length s ≤ 5 * length d₀ → w ≡ End → n ≤ length d₀
+  pub filling-few : length (rowsIn specs s) ≤ length d₀ → w ≡ End → n ≤ length d₀
   filling-few h e = whole h (end-row specs s at (m .passed) (m .here) w stands says e) .1
 
-  pub filling-refused : length s ≤ 5 * length d₀ → (k : ℕ) → w ≡ Refused k → Indexed specs s (take n d)
+  pub filling-refused : length (rowsIn specs s) ≤ length d₀ → (k : ℕ) → w ≡ Refused k → Indexed specs s (take n d)
   filling-refused h k e = whole h (refused-row specs s at (m .passed) (m .here) w stands says k e) .0
 
-  pub filling-refused-few : length s ≤ 5 * length d₀ → (k : ℕ) → w ≡ Refused k → n ≤ length d₀
+  pub filling-refused-few : length (rowsIn specs s) ≤ length d₀ → (k : ℕ) → w ≡ Refused k → n ≤ length d₀
   filling-refused-few h k e = whole h (refused-row specs s at (m .passed) (m .here) w stands says k e) .1
 
   module _ (row : RowPlace) (next : Cursor) (e : w ≡ Row row next) where
     there : RowTaken specs s at row (next .at)
     there = taken specs s at (m .passed) (m .here) w stands says row next e
 
-    pub filling-room : length s ≤ 5 * length d₀ → n < length d
-    filling-room h = omega (arith, m .room, m .few, there .here, m .same-long)
+    one-more : m .passed < length (rowsIn specs s)
+    one-more =
+        let q = next-row specs s at (m .passed) (m .here) w stands says row next e in
+        omega (arith, ap length (q .is), length-drop (m .passed) (rowsIn specs s))
+
+    pub filling-room : length (rowsIn specs s) ≤ length d₀ → n < length d
+    filling-room h = omega (arith, m .few, one-more, m .same-long)
 
     pub filling-place : at ≤ 1048576
     filling-place = omega (arith, there .here, m .here .short)
@@ -208,9 +171,9 @@ module _ (specs : ℕ) (s : Text) (d₀ d : List ℕ) (at n : ℕ) (m : Filling 
         let q = next-row specs s at (m .passed) (m .here) w stands says row next e in
         take-suc (rowsIn specs s) (m .passed) (rowMeant s row) (drop (m .passed + 1) (rowsIn specs s)) (q .is)
 
-    pub filling-more : ((i : ℕ) → Fits w8 (getD s i 0)) → length s ≤ 5 * length d₀ → (d′ : List ℕ) (r : ℕ) → Stored d n at (row .dst) d′ r → Filling specs s d₀ d′ (next .at) r
+    pub filling-more : length (rowsIn specs s) ≤ length d₀ → (d′ : List ℕ) (r : ℕ) → Stored d n at (row .dst) d′ r → Filling specs s d₀ d′ (next .at) r
     unfolding rowMeant
-    filling-more o room d′ r z = go (row .dst) refl z
+    filling-more room d′ r z = go (row .dst) refl z
       where
         h : n < length d
         h = filling-room room
@@ -230,7 +193,7 @@ module _ (specs : ℕ) (s : Text) (d₀ d : List ℕ) (at n : ℕ) (m : Filling 
             (record {
               passed = m .passed + 1;
               here = q;
-              room = omega (arith, m .room, five-on specs s at row (next .at) there o);
+              some-left = omega (arith, one-more);
               few = omega (arith, m .few);
               same-long = m .same-long;
               rows-are = sym (append-none (rowsAt s (take n d))) ∙ (rw f at kept);
@@ -243,7 +206,7 @@ module _ (specs : ℕ) (s : Text) (d₀ d : List ℕ) (at n : ℕ) (m : Filling 
             (record {
               passed = m .passed + 1;
               here = q;
-              room = omega (arith, m .room, five-on specs s at row (next .at) there o);
+              some-left = omega (arith, one-more);
               few = omega (arith, m .few);
               same-long = length-set d n at ∙ m .same-long;
               rows-are = let g : present (sideMeant s (row .dst)) ≡ true = rw f in rw (put-there, map-put s at (take n d), row-there specs s at row (next .at) there) (rw g at kept);
@@ -263,7 +226,3 @@ module _ (d₀ d : List ℕ) (n : ℕ) (few : n ≤ length d₀) (same : length 
 
   pub filled-room : (room : ℕ) → length d₀ ≤ 2 * room + 1 → length (take n d) ≤ 2 * room + 1
   filled-room room h = omega (arith, filled-count)
-
--- room for the rows of any list
-pub many-room : (specs : ℕ) (s : Text) → RowsRead specs s → (d : List ℕ) → length d ≡ 209716 → length s ≤ 5 * length d
-many-room specs s r d e = omega (arith, list-short specs s r)

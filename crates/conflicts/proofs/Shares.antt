@@ -27,7 +27,7 @@ use Rattle.order.specs.Sorting.{firstsBy}
 use Rattle.order.specs.Keys.{rowAt, Finds, sameAt}
 use Rattle.conflicts.specs.Listed.{conflictPart}
 use Rattle.conflicts.specs.FirstSeen.{sourcesOn, sourcesBytes, listedBytes}
-use Rattle.conflicts.specs.Indexed.{rowsAt, destinationAt, OneRun, runBytes, headAt, listedAt, sourcesAt}
+use Rattle.conflicts.specs.Indexed.{rowsAt, destinationAt, OneRun, runBytes, headAt, listedAt, sourcesAt, firstsAt}
 use Rattle.conflicts.proofs.Pieces.{text-long}
 
 -- a destination is in conflict exactly where it has two sources at least
@@ -90,7 +90,7 @@ unfolding differ
 firsts-rows s [] = refl
 firsts-rows s (p ∷ l) = ap (λ k. rowAt s p ∷ k) (keep-rows s (differ (rowAt s p)) (firstsBy (sameAt Source s) l) ∙ ap (keep (differ (rowAt s p))) (firsts-rows s l))
 
-firsts-first : (s : Text) (l : List ℕ) → getD (firstsBy (sameAt Source s) l) 0 0 ≡ getD l 0 0
+pub firsts-first : (s : Text) (l : List ℕ) → getD (firstsBy (sameAt Source s) l) 0 0 ≡ getD l 0 0
 firsts-first s [] = refl
 firsts-first s (p ∷ l) = refl
 
@@ -152,6 +152,9 @@ module _ (s : Text) (l : List ℕ) (run : OneRun s l) where
     pub firsts-short : length l ≤ 1048576 → length (take n e) ≤ 1048576
     firsts-short h = omega (arith, firsts-count)
 
+    pub firsts-pair : length l ≡ 2 → length (take n e) ≤ 1048576
+    firsts-pair h = omega (arith, firsts-count)
+
     whole : 2 ≤ n → runBytes s l ≡ listedAt s (take n e)
     unfolding runBytes listedAt
     whole h = part-pieces (rowsAt s l) dst (omega (arith, counted)) ∙ rw (rows-are, firsts, firsts-first s l)
@@ -169,6 +172,19 @@ module _ (s : Text) (l : List ℕ) (run : OneRun s l) where
 
         pub two-after : (k : ℕ) → k ≡ to + length (listedAt s (take n e)) → k ≡ to + length (runBytes s l)
         two-after k h = rw (whole two) h
+
+-- `counted_size`: so many rows are the first of their source, and the sources take so many bytes
+module _ (s : Text) (l : List ℕ) (run : OneRun s l) (count : ℕ) (ec : count ≡ length (firstsAt s l)) where
+  seen : count ≡ length (sourcesOn (rowsAt s l) (destinationAt s (getD l 0 0)))
+  seen = ec ∙ sym (map-long (rowAt s) (firstsAt s l)) ∙ ap length (firsts-rows s l ∙ sym (sources-are s l run))
+
+  pub few-none : count < 2 → 0 ≡ length (runBytes s l)
+  unfolding runBytes
+  few-none h = rw (part-none (rowsAt s l) (destinationAt s (getD l 0 0)) (omega (arith, seen)))
+
+  listed : 2 ≤ count → runBytes s l ≡ listedAt s (firstsAt s l)
+  unfolding runBytes listedAt
+  listed h = part-pieces (rowsAt s l) (destinationAt s (getD l 0 0)) (omega (arith, seen)) ∙ rw (sources-are s l run, ← firsts-rows s l, firsts-first s l)
 
 -- the destination of the row at a place, by its fields
 module _ (s : Text) (p : ℕ) (f : RowFields) (w : Finds s (rowAt s p) f) where
@@ -249,6 +265,27 @@ module _ (s : Text) (l : List ℕ) (p : ℕ) (ep : p ≡ getD l 0 0) where
 
         pub head-after : j ≡ end + length (headAt s l)
         head-after = written-place o end head o₂ j [] second refl
+
+-- the sizes of `counted_size`: x the destination's, y the count's, z the sources'
+module _ (s : Text) (l : List ℕ) (run : OneRun s l) (count : ℕ) (ec : count ≡ length (firstsAt s l)) (p : ℕ) (ep : p ≡ getD l 0 0) (x y z : ℕ) (small-x : x ≤ 1048579) (ey : y ≡ length (numberBytes count)) where
+  firsts-y : y ≡ length (numberBytes (length (firstsAt s l)))
+  firsts-y = rw (← ec) ey
+
+  firsts-p : p ≡ getD (firstsAt s l) 0 0
+  firsts-p = ep ∙ sym (firsts-first s l)
+
+  pub counted-two : Fits w64 (x + y)
+  counted-two = size-two s (firstsAt s l) p firsts-p x y z small-x firsts-y
+
+  module _ (small : z ≤ 1099521064960) where
+    pub counted-three : Fits w64 (x + y + z)
+    counted-three = size-three s (firstsAt s l) p firsts-p x y z small-x firsts-y small
+
+    pub counted-small : x + y + z ≤ 2000000000000
+    counted-small = size-small s (firstsAt s l) p firsts-p x y z small-x firsts-y small
+
+    pub counted-whole : 2 ≤ count → x ≡ length (textBytes (destinationAt s p)) → z ≡ length (sourcesAt s (firstsAt s l)) → x + y + z ≡ length (runBytes s l)
+    counted-whole h ex ez = size-whole s (firstsAt s l) p firsts-p x y z small-x firsts-y small ex ez ∙ ap length (sym (listed s l run count ec h))
 
 -- the head, then the sources
 module _ (s : Text) (l : List ℕ) (o : Text) (end : ℕ) (fits : end + length (listedAt s l) ≤ length o) where

@@ -6,9 +6,10 @@ use mathlib.Core.Logic.{_↔_}
 use mathlib.Core.Option.{Option, none, some}
 use Prim.Native.Nat.{ℕ, zero, suc, _+_, _-_, _*_, _≤_, _<_}
 use native.Mathlib.Omega.{arith}
+use borrow.Author.Tests.{le-leb, lt-leb}
 use mir.Val.{Fits}
 use mir.Syntax.{w64}
-use borrow.Rule.Slice.PartMut.{putMid, mid-len, drop-put, same-len-mid}
+use borrow.Rule.Slice.PartMut.{putMid, mid-len, put-same, drop-put, same-len-mid}
 use lib.ListN.{length, getD, take, drop, length-append}
 use lib.Seq.{drop-drop}
 use Rattle.meaning.specs.Bytes.{Text, keep, each, present, inOrder}
@@ -17,6 +18,7 @@ use Rattle.meaning.specs.Rows.{Row}
 use Rattle.meaning.specs.Validation.{listed, destinationOf, isText, onto, rowsOnto, inConflict, Conflict, conflictOn, conflicts, sourceBytes, conflictBytes}
 use Rattle.promises.proofs.Reading.{number-long}
 use Rattle.text.specs.Splice.{splice}
+use Rattle.text.proofs.Splices.{splice-none}
 use Rattle.text.proofs.Rests.{rest-cons, rest-end}
 use Rattle.text.proofs.Writing.{Writing, writing-starts, writing-room, writing-more, written-whole}
 use Rattle.order.specs.declared.key.Key.the-variants.{Destination}
@@ -26,11 +28,15 @@ use Rattle.order.proofs.Sorts.{sorted-sort}
 use Rattle.order.proofs.Keys.{keys-order}
 use Rattle.order.proofs.Runs.{group-kept}
 use Rattle.order.proofs.Heads.{ascending-keep}
-use Rattle.conflicts.specs.Listed.{rowsIn, conflictsBytes, conflictPart}
+use Rattle.conflicts.specs.Listed.{rowsIn, conflictsBytes, conflictPart, putIfRoom}
 use Rattle.conflicts.specs.Indexed.{rowsAt, destinationAt, hasDestination, Given, SortedIndex, OneRun, runBytes}
 use Rattle.conflicts.proofs.Shares.{each-map}
 use Rattle.conflicts.proofs.InOrder.{in-order}
 use Rattle.conflicts.proofs.Grouped.{part-by, walk, walk-run, onto-keep, onto-again, run-shares}
+
+pub no-bytes : (t : Text) → length t ≡ 0 → t ≡ []
+no-bytes [] e = refl
+no-bytes (x ∷ t) e = absurd (omega arith)
 
 each-kept : {A B C : Type 0} (test : A → Bool) (f : A → B) (g : B → List C) (l : List A) → each (map f (keep test l)) g ≡ each l (λ x. cond (test x) (g (f x)) [])
 each-kept test f g [] = refl
@@ -233,12 +239,13 @@ module _ (s : Text) (d : List ℕ) (i : ℕ) (h : Here s d i) (some : i < length
 -- the runs before a position are measured
 pub record Walking (specs : ℕ) (s : Text) (d₀ d : List ℕ) (i size : ℕ) : Type 0 where
   pub at : Here s d i
+  pub as-was : d ≡ d₀
   pub same-long : length d ≡ length d₀
   pub measured : size + length (walk s (drop i d)) ≡ length (conflictsBytes (rowsIn specs s))
   pub small : size ≤ i * 2000000000000
 
 pub walking-starts : (specs : ℕ) (s : Text) (d : List ℕ) → SortedIndex specs s d → Walking specs s d d 0 0
-walking-starts specs s d x = record { at = here-starts specs s d x; same-long = refl; measured = omega (arith, ap length (walk-whole specs s d x)); small = omega arith }
+walking-starts specs s d x = record { at = here-starts specs s d x; as-was = refl; same-long = refl; measured = omega (arith, ap length (walk-whole specs s d x)); small = omega arith }
 
 module _ (specs : ℕ) (s : Text) (d₀ d : List ℕ) (i size : ℕ) (m : Walking specs s d₀ d i size) where
   pub walking-done : length d ≤ i → size ≡ length (conflictsBytes (rowsIn specs s))
@@ -248,10 +255,12 @@ module _ (specs : ℕ) (s : Text) (d₀ d : List ℕ) (i size : ℕ) (m : Walkin
     pub walking-fits : length d₀ ≤ 1048576 → Fits w64 (size + n)
     walking-fits h = omega (arith, m .small, m .same-long)
 
-    pub walking-more : n ≡ length (runBytes s (take (end - i) (drop i d))) → (ys : List ℕ) → length ys ≡ length (take (end - i) (drop i d)) → Walking specs s d₀ (putMid i (end - i) d ys) end (size + n)
-    walking-more e ys same =
+    pub walking-more : n ≡ length (runBytes s (take (end - i) (drop i d))) → (ys : List ℕ) → ys ≡ take (end - i) (drop i d) → Walking specs s d₀ (putMid i (end - i) d ys) end (size + n)
+    walking-more e ys kept =
+        let same : length ys ≡ length (take (end - i) (drop i d)) = ap length kept in
         record {
           at = here-next s d i (m .at) some end run begun room ys same;
+          as-was = rw (kept, put-same i (end - i) d) (m .as-was);
           same-long = back-long s d i (m .at) some end run begun room ys same ∙ m .same-long;
           measured =
               let w = walk-on s d i (m .at) some end run begun room in
@@ -289,6 +298,28 @@ module _ (specs : ℕ) (s : Text) (d₀ d : List ℕ) (i : ℕ) (buffer out : Te
               rw (back-drop s d i (k .at) some end run begun room ys same)
               (writing-more buffer 0 (conflictsBytes (rowsIn specs s)) out to (walk s (drop i d)) (k .writing) (runBytes s (take (end - i) (drop i d))) (walk s (drop end d)) (walk-on s d i (k .at) some end run begun room) new stop p q);
         }
+
+-- `put_if_room`: the conflicts of a sorted index, measured and then written
+pub index-again : (specs : ℕ) (s : Text) (d e : List ℕ) → e ≡ d → SortedIndex specs s d → SortedIndex specs s e
+index-again specs s d e q x = rw q x
+
+module _ (rows : List Row) (size : ℕ) (es : size ≡ length (conflictsBytes rows)) (d : Text) where
+  pub none-put : size ≡ 0 → d ≡ putIfRoom d (conflictsBytes rows)
+  unfolding putIfRoom
+  none-put z =
+      let n : conflictsBytes rows ≡ [] = no-bytes (conflictsBytes rows) (sym es ∙ z) in
+      rw (n, le-leb 0 (length d) (omega arith)) (sym (splice-none d 0))
+
+  pub none-size : size ≡ 0 → 0 ≡ length (conflictsBytes rows)
+  none-size z = sym z ∙ es
+
+  pub short-left : length d < size → d ≡ putIfRoom d (conflictsBytes rows)
+  unfolding putIfRoom
+  short-left h = rw (lt-leb (length (conflictsBytes rows)) (length d) (rw (← es) h))
+
+  pub whole-put : size ≤ length d → (o : Text) → o ≡ splice d 0 (conflictsBytes rows) → o ≡ putIfRoom d (conflictsBytes rows)
+  unfolding putIfRoom
+  whole-put h o e = rw (le-leb (length (conflictsBytes rows)) (length d) (rw (← es) h)) e
 
 -- there are bytes exactly where there are conflicts
 

@@ -1,5 +1,5 @@
 -- An index: the places of the rows that have a destination, and the conflict of rows that share one.
-use Prim.Native.Nat.{ℕ, _+_}
+use Prim.Native.Nat.{ℕ, _+_, _≤_}
 use mathlib.Core.Path.{_≡_}
 use mathlib.Core.Bool.{Bool, true}
 use mathlib.Core.List.{List, [], _∷_, _++_, map}
@@ -10,9 +10,10 @@ use Rattle.meaning.specs.Rows.{Row}
 use Rattle.meaning.specs.Validation.{rowsOnto}
 use Rattle.parse.specs.declared.types.Side.{Side}
 use Rattle.parse.specs.declared.types.Side.the-variants.{Absent, Part, Head}
-use Rattle.order.specs.declared.key.Key.the-variants.{Destination}
-use Rattle.order.specs.Sorting.{Ascending}
-use Rattle.order.specs.Keys.{rowAt, sortPlaces}
+use Rattle.order.specs.declared.key.Key.the-variants.{Destination, Source}
+use Rattle.order.specs.Sorting.{Ascending, heads, firstsBy}
+use Rattle.order.specs.Keys.{rowAt, sameAt, sortPlaces}
+use Rattle.conflicts.specs.declared.sources.HeadsSize.{HeadsSize}
 use Rattle.conflicts.specs.Listed.{rowsIn, conflictPart}
 use Rattle.conflicts.specs.FirstSeen.{rowSourceBytes, sourcesBytes, listedBytes}
 
@@ -68,6 +69,17 @@ sourceAt s p = rowSourceBytes (rowAt s p)
 
 unfoldable pub sourcesAt : Text → List ℕ → Text
 sourcesAt s l = sourcesBytes (rowsAt s l)
+
+-- the places of rows that are the first of their source, by place
+abbrev pub firstsAt : Text → List ℕ → List ℕ
+firstsAt s l = firstsBy (sameAt Source s) l
+
+-- how many places of a list sorted by source are the first of theirs, and how many bytes their sources take
+pub record Heads (s : Text) (l : List ℕ) (h : HeadsSize) : Type 0 where
+  pub count-is : h .count ≡ length (heads (sameAt Source s) l)
+  pub count-small : h .count ≤ length l
+  pub size-is : h .size ≡ length (sourcesAt s (heads (sameAt Source s) l))
+  pub size-small : h .size ≤ 1099521064960
 
 -- a place was stored after n others, if the side is there
 abbrev pub Stored : List ℕ → ℕ → ℕ → Side → List ℕ → ℕ → Type 0

@@ -3,10 +3,13 @@ use Prim.Native.Nat.{ℕ, _+_, _≤_}
 use mathlib.Core.Path.{_≡_}
 use mathlib.Core.Bool.{cond}
 use mathlib.Core.List.{List, []}
+use lib.Dec.{leb}
+use lib.ListN.{length}
 use Rattle.meaning.specs.Bytes.{Text, each}
 use Rattle.meaning.specs.Spec.{Answer, accepted, refused}
 use Rattle.meaning.specs.Rows.{Row, readRows}
 use Rattle.meaning.specs.Validation.{inConflict, conflictOn, conflicts, conflictBytes}
+use Rattle.text.specs.Splice.{splice}
 use Rattle.parse.specs.declared.types.Side.{Side}
 use Rattle.parse.specs.declared.types.Side.the-variants.{Absent, Part, Head}
 
@@ -31,6 +34,10 @@ conflictsBytes rows = each (conflicts rows) conflictBytes
 -- the bytes of the conflict on a destination, if it is in conflict
 unfoldable pub conflictPart : List Row → Text → Text
 conflictPart rows d = cond (inConflict rows d) (conflictBytes (conflictOn rows d)) []
+
+-- a buffer after a text was written at its start, if it has room for all of it
+unfoldable pub putIfRoom : Text → Text → Text
+putIfRoom d t = cond (leb (length t) (length d)) (splice d 0 t) d
 
 -- a destination stands within so many bytes, or is absent; no row's destination is the supplied `HEAD`
 abbrev pub InList : ℕ → Side → Type 0

@@ -4,7 +4,8 @@ ghost use Prim.Native.Nat.{_+_, _*_, _≤_, _<_};
 ghost use lib.ListN.{length};
 ghost use Rattle.text.specs.Splice.{splice};
 ghost use Rattle.meaning.specs.Number.{textBytes};
-ghost use Rattle.conflicts.specs.Indexed.{destinationAt, OneRun, runBytes, headAt, listedAt};
+ghost use Rattle.conflicts.specs.Indexed.{destinationAt, OneRun, runBytes, headAt, listedAt, sourcesAt, firstsAt};
+use super::sources::heads_size;
 use super::sources::put_sources;
 use super::sources::put_text;
 use super::sources::sources_size;
@@ -12,6 +13,8 @@ use super::sources::wide;
 use order::fields::fields;
 use order::key::Key;
 use order::run::keep_firsts;
+use order::run::pair_firsts;
+use order::sort::sort;
 
 // How many bytes the destination of the row at a place takes with its length.
 fn destination_size(rows: &[u8], p: usize) -> usize
@@ -61,19 +64,53 @@ fn put_listed(out: &mut [u8], to: usize, rows: &[u8], firsts: &[u32]) -> usize
     put_sources(out, i, rows, firsts)
 }
 
-// How many bytes the conflict of a run takes; 0 where all its rows have one source.
-pub(crate) fn run_size(rows: &[u8], run: &mut [u32], scratch: &mut [u32]) -> usize
-    requires { ⌜ OneRun (now rows) (now run) × (0 < length (now run)) × (length (now rows) ≤ 1048576) × (length (now run) ≤ 1048576) × (length (now run) ≤ 2 * length (now scratch) + 1) ⌝ }
+// How many bytes the conflict of a run of two takes; 0 where both have one source.
+fn pair_size(rows: &[u8], run: &[u32]) -> usize
+    requires { ⌜ OneRun (now rows) (now run) × (length (now run) ≡ 2) × (length (now rows) ≤ 1048576) ⌝ }
     ensures { λ r. ⌜ (r ≡ length (runBytes (now (rows .entry)) (now (run .entry)))) × (r ≤ 2000000000000) ⌝ }
 {
-    if run.len() < 2 {
-        return 0;
-    }
-    let count = keep_firsts(rows, Key::Source, run, scratch);
+    let count = pair_firsts(rows, Key::Source, run);
     if count < 2 {
         return 0;
     }
     listed_size(rows, &run[..count])
+}
+
+// How many bytes the conflict of a run takes that has so many sources, which take so many bytes.
+fn counted_size(rows: &[u8], run: &[u32], sources: usize, size: usize) -> usize
+    requires { ⌜ OneRun (now rows) (now run) × (0 < length (now run)) × (length (now rows) ≤ 1048576) × (length (now run) ≤ 1048576) × (sources ≡ length (firstsAt (now rows) (now run))) × (sources ≤ length (now run)) × (size ≡ length (sourcesAt (now rows) (firstsAt (now rows) (now run)))) × (size ≤ 1099521064960) ⌝ }
+    ensures { λ r. ⌜ (r ≡ length (runBytes (now (rows .entry)) (now (run .entry)))) × (r ≤ 2000000000000) ⌝ }
+{
+    if sources < 2 {
+        return 0;
+    }
+    let head = destination_size(rows, wide(run[0]));
+    head + number::size(sources) + size
+}
+
+// How many bytes the conflict of a run takes, by a sort that brings the rows of a source together, and one back to place order.
+fn sorted_run_size(rows: &[u8], run: &mut [u32], scratch: &mut [u32]) -> usize
+    requires { ⌜ OneRun (now rows) (now run) × (0 < length (now run)) × (length (now rows) ≤ 1048576) × (length (now run) ≤ 1048576) × (length (now run) ≤ 2 * length (now scratch) + 1) ⌝ }
+    ensures { λ r. ⌜ (r ≡ length (runBytes (now (rows .entry)) (now (run .entry)))) × (r ≤ 2000000000000) × (now (run .exit) ≡ now (run .entry)) ⌝ }
+{
+    sort(rows, Key::Source, run, scratch);
+    let heads = heads_size(rows, run);
+    sort(rows, Key::Place, run, scratch);
+    counted_size(rows, run, heads.count, heads.size)
+}
+
+// How many bytes the conflict of a run takes; 0 where all its rows have one source. The run is left as it was.
+pub(crate) fn run_size(rows: &[u8], run: &mut [u32], scratch: &mut [u32]) -> usize
+    requires { ⌜ OneRun (now rows) (now run) × (0 < length (now run)) × (length (now rows) ≤ 1048576) × (length (now run) ≤ 1048576) × (length (now run) ≤ 2 * length (now scratch) + 1) ⌝ }
+    ensures { λ r. ⌜ (r ≡ length (runBytes (now (rows .entry)) (now (run .entry)))) × (r ≤ 2000000000000) × (now (run .exit) ≡ now (run .entry)) ⌝ }
+{
+    if run.len() < 2 {
+        return 0;
+    }
+    if run.len() == 2 {
+        return pair_size(rows, run);
+    }
+    sorted_run_size(rows, run, scratch)
 }
 
 // Writes the conflict of a run, if its rows have different sources, and answers the place after it.

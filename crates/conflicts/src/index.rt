@@ -3,7 +3,7 @@ ghost use mathlib.Core.Path.{_≡_};
 ghost use Prim.Native.Nat.{_+_, _*_, _≤_, _<_};
 ghost use lib.ListN.{length, take, set};
 ghost use Rattle.text.specs.Splice.{splice};
-ghost use Rattle.conflicts.specs.Listed.{rowsIn, RowsRead, conflictsBytes, InList};
+ghost use Rattle.conflicts.specs.Listed.{rowsIn, RowsRead, conflictsBytes, putIfRoom, InList};
 ghost use Rattle.conflicts.specs.Indexed.{Indexed, SortedIndex, Stored};
 use super::conflict::put_run;
 use super::conflict::run_size;
@@ -46,7 +46,7 @@ fn store(index: &mut [u32], n: usize, at: usize, dst: Side) -> usize
 
 // Stores the places of all rows that have a destination, and answers how many there are.
 fn fill(rows: &[u8], specs: usize, index: &mut [u32]) -> usize
-    requires { ⌜ RowsRead specs (now rows) × (length (now rows) ≤ 5 * length (now index)) ⌝ }
+    requires { ⌜ RowsRead specs (now rows) × (length (rowsIn specs (now rows)) ≤ length (now index)) ⌝ }
     ensures { λ r. ⌜ Indexed specs (now (rows .entry)) (take r (now (index .exit))) × (r ≤ length (now (index .entry))) ⌝ }
 {
     let mut n = 0;
@@ -69,10 +69,10 @@ fn fill(rows: &[u8], specs: usize, index: &mut [u32]) -> usize
     }
 }
 
-// How many bytes the conflicts of a sorted index take, run by run.
+// How many bytes the conflicts of a sorted index take, run by run. The index is left as it was.
 fn sorted_size(rows: &[u8], specs: usize, index: &mut [u32], scratch: &mut [u32]) -> usize
     requires { ⌜ RowsRead specs (now rows) × SortedIndex specs (now rows) (now index) × (length (now index) ≤ 1048576) × (length (now index) ≤ 2 * length (now scratch) + 1) ⌝ }
-    ensures { λ r. ⌜ r ≡ length (conflictsBytes (rowsIn specs (now (rows .entry)))) ⌝ }
+    ensures { λ r. ⌜ (r ≡ length (conflictsBytes (rowsIn specs (now (rows .entry))))) × (now (index .exit) ≡ now (index .entry)) ⌝ }
 {
     let mut size = 0;
     let mut i = 0;
@@ -98,49 +98,54 @@ fn put_sorted(out: &mut [u8], rows: &[u8], specs: usize, index: &mut [u32], scra
     }
 }
 
-// Sorts the places of a row list, and measures its conflicts.
-fn filled_size(rows: &[u8], specs: usize, index: &mut [u32], scratch: &mut [u32]) -> usize
-    requires { ⌜ RowsRead specs (now rows) × Indexed specs (now rows) (now index) × (length (now index) ≤ 1048576) × (length (now index) ≤ 2 * length (now scratch) + 1) ⌝ }
-    ensures { λ r. ⌜ r ≡ length (conflictsBytes (rowsIn specs (now (rows .entry)))) ⌝ }
-{
-    sort(rows, Key::Destination, index, scratch);
-    sorted_size(rows, specs, index, scratch)
-}
-
-// Sorts the places of a row list, and writes its conflicts at the start of a buffer.
-fn put_filled(out: &mut [u8], rows: &[u8], specs: usize, index: &mut [u32], scratch: &mut [u32])
-    requires { ⌜ RowsRead specs (now rows) × Indexed specs (now rows) (now index) × (length (now index) ≤ 1048576) × (length (now index) ≤ 2 * length (now scratch) + 1) × (length (conflictsBytes (rowsIn specs (now rows))) ≤ length (now out)) ⌝ }
-    ensures { λ _. ⌜ now (out .exit) ≡ splice (now (out .entry)) 0 (conflictsBytes (rowsIn specs (now (rows .entry)))) ⌝ }
-{
-    sort(rows, Key::Destination, index, scratch);
-    put_sorted(out, rows, specs, index, scratch);
-}
-
-// How many bytes the conflicts of a row list take, whose places an index has room for.
-pub(crate) fn indexed_size(
+// Writes the conflicts of a sorted index at the start of a buffer that has room for them, and answers how many bytes they take.
+fn put_if_room(
+    out: &mut [u8],
     rows: &[u8],
     specs: usize,
     index: &mut [u32],
     scratch: &mut [u32],
 ) -> usize
-    requires { ⌜ RowsRead specs (now rows) × (length (now rows) ≤ 5 * length (now index)) × (length (now index) ≤ 1048576) × (length (now index) ≤ 2 * length (now scratch) + 1) ⌝ }
-    ensures { λ r. ⌜ r ≡ length (conflictsBytes (rowsIn specs (now (rows .entry)))) ⌝ }
+    requires { ⌜ RowsRead specs (now rows) × SortedIndex specs (now rows) (now index) × (length (now index) ≤ 1048576) × (length (now index) ≤ 2 * length (now scratch) + 1) ⌝ }
+    ensures { λ r. ⌜ (r ≡ length (conflictsBytes (rowsIn specs (now (rows .entry))))) × (now (out .exit) ≡ putIfRoom (now (out .entry)) (conflictsBytes (rowsIn specs (now (rows .entry))))) ⌝ }
 {
-    let n = fill(rows, specs, index);
-    filled_size(rows, specs, &mut index[..n], scratch)
+    let size = sorted_size(rows, specs, index, scratch);
+    if size == 0 {
+        return 0;
+    }
+    if out.len() < size {
+        return size;
+    }
+    put_sorted(out, rows, specs, index, scratch);
+    size
 }
 
-// Writes the conflicts of a row list, whose places an index has room for, at the start of a buffer.
+// Sorts the places of a row list, which serve to measure its conflicts and to write them.
+fn put_filled(
+    out: &mut [u8],
+    rows: &[u8],
+    specs: usize,
+    index: &mut [u32],
+    scratch: &mut [u32],
+) -> usize
+    requires { ⌜ RowsRead specs (now rows) × Indexed specs (now rows) (now index) × (length (now index) ≤ 1048576) × (length (now index) ≤ 2 * length (now scratch) + 1) ⌝ }
+    ensures { λ r. ⌜ (r ≡ length (conflictsBytes (rowsIn specs (now (rows .entry))))) × (now (out .exit) ≡ putIfRoom (now (out .entry)) (conflictsBytes (rowsIn specs (now (rows .entry))))) ⌝ }
+{
+    sort(rows, Key::Destination, index, scratch);
+    put_if_room(out, rows, specs, index, scratch)
+}
+
+// The conflicts of a row list, whose places an index has room for, at the start of a buffer that has room for them.
 pub(crate) fn put_indexed(
     out: &mut [u8],
     rows: &[u8],
     specs: usize,
     index: &mut [u32],
     scratch: &mut [u32],
-)
-    requires { ⌜ RowsRead specs (now rows) × (length (now rows) ≤ 5 * length (now index)) × (length (now index) ≤ 1048576) × (length (now index) ≤ 2 * length (now scratch) + 1) × (length (conflictsBytes (rowsIn specs (now rows))) ≤ length (now out)) ⌝ }
-    ensures { λ _. ⌜ now (out .exit) ≡ splice (now (out .entry)) 0 (conflictsBytes (rowsIn specs (now (rows .entry)))) ⌝ }
+) -> usize
+    requires { ⌜ RowsRead specs (now rows) × (length (rowsIn specs (now rows)) ≤ length (now index)) × (length (now index) ≤ 1048576) × (length (now index) ≤ 2 * length (now scratch) + 1) ⌝ }
+    ensures { λ r. ⌜ (r ≡ length (conflictsBytes (rowsIn specs (now (rows .entry))))) × (now (out .exit) ≡ putIfRoom (now (out .entry)) (conflictsBytes (rowsIn specs (now (rows .entry))))) ⌝ }
 {
     let n = fill(rows, specs, index);
-    put_filled(out, rows, specs, &mut index[..n], scratch);
+    put_filled(out, rows, specs, &mut index[..n], scratch)
 }

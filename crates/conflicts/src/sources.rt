@@ -5,8 +5,16 @@ ghost use lib.ListN.{length};
 ghost use Rattle.text.specs.Splice.{splice};
 ghost use Rattle.parse.specs.Places.{partAt};
 ghost use Rattle.meaning.specs.Number.{textBytes};
-ghost use Rattle.conflicts.specs.Indexed.{sourceAt, sourcesAt};
+ghost use Rattle.conflicts.specs.Indexed.{sourceAt, sourcesAt, Heads};
 use order::fields::fields;
+use order::key::Key;
+use order::run::run_end;
+
+// Of places sorted by source: how many are the first of theirs, and how many bytes the sources take.
+pub(crate) struct HeadsSize {
+    pub count: usize,
+    pub size: usize,
+}
 
 // A place of an index as a number of the machine's width.
 pub(crate) fn wide(p: u32) -> usize
@@ -73,4 +81,21 @@ pub(crate) fn put_sources(out: &mut [u8], start: usize, rows: &[u8], places: &[u
         i += 1;
     }
     to
+}
+
+// How many sources there are at places sorted by source, and how many bytes they take, each once.
+pub(crate) fn heads_size(rows: &[u8], places: &[u32]) -> HeadsSize
+    requires { ⌜ (length (now rows) ≤ 1048576) × (length (now places) ≤ 1048576) ⌝ }
+    ensures { λ h. ⌜ Heads (now (rows .entry)) (now (places .entry)) h ⌝ }
+{
+    let mut count = 0;
+    let mut size = 0;
+    let mut i = 0;
+    while i < places.len() {
+        let end = run_end(rows, Key::Source, places, i);
+        count += 1;
+        size += source_size(rows, wide(places[i]));
+        i = end;
+    }
+    HeadsSize { count, size }
 }

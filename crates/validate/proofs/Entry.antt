@@ -18,19 +18,19 @@ use Rattle.text.proofs.Splices.{splice-start}
 use Rattle.list.specs.declared.items.Checked.{Checked}
 use Rattle.list.specs.Checked.{checked}
 use Rattle.list.proofs.Told.{Passed, specs-passed, specs-failed, rows-passed, rows-failed}
-use Rattle.conflicts.specs.Listed.{rowsIn, RowsRead, conflictsBytes}
-use Rattle.conflicts.proofs.Wholes.{bytes-exactly}
+use Rattle.conflicts.specs.Listed.{rowsIn, RowsRead, conflictsBytes, putIfRoom}
+use Rattle.conflicts.proofs.Wholes.{no-bytes, none-put, short-left, whole-put, bytes-exactly}
 use Rattle.validate.specs.declared.Validation.{Validation}
 use Rattle.validate.specs.Answers.{refusedWith, shortOf}
-
-no-bytes : (t : Text) → length t ≡ 0 → t ≡ []
-no-bytes [] e = refl
-no-bytes (x ∷ t) e = absurd (omega arith)
 
 -- rows that were judged by the size of their conflicts
 module _ (rows : List Row) (size : ℕ) (es : size ≡ length (conflictsBytes rows)) where
   pub size-none : size ≡ 0 → conflicts rows ≡ []
   size-none z = bytes-exactly rows .0 (no-bytes (conflictsBytes rows) (sym es ∙ z))
+
+  -- without conflicts the buffer is as it was
+  pub calm-told : size ≡ 0 → (d o : Text) → o ≡ putIfRoom d (conflictsBytes rows) → (f p q : Text) (w t m u v b : ℕ) → MeetsTwo (accepted (verdictBytes (verdict rows))) o f p q w t m u v b → MeetsTwo (accepted (verdictBytes (verdict rows))) d f p q w t m u v b
+  calm-told z d o eo f p q w t m u v b k = let g : d ≡ o = none-put rows size es d z ∙ sym eo in rw g k
 
   module _ (some-there : size ≡ 0 → ⊥) where
     conflicting-bytes : verdictBytes (verdict rows) ≡ some (conflictsBytes rows) ∷ none ∷ []
@@ -41,14 +41,16 @@ module _ (rows : List Row) (size : ℕ) (es : size ≡ length (conflictsBytes ro
         go [] e = absurd (some-there (es ∙ ap (λ (l : List Conflict). length (each l conflictBytes)) e))
         go (c ∷ l) e = refl
 
-    module _ (d f : Text) where
-      pub conflicts-short : length d < size → (w : Validation) → w ≡ shortOf 1 size → MeetsTwo (accepted (verdictBytes (verdict rows))) d f d f (w .refusal) (w .«record») (w .conflicts) (w .length) (w .«fixes_length») (w .buffer)
+    module _ (d f o : Text) (eo : o ≡ putIfRoom d (conflictsBytes rows)) where
+      pub conflicts-short : length d < size → (w : Validation) → w ≡ shortOf 1 size → MeetsTwo (accepted (verdictBytes (verdict rows))) d f o f (w .refusal) (w .«record») (w .conflicts) (w .length) (w .«fixes_length») (w .buffer)
       conflicts-short h w e =
-          rw e (meets-two-short-first (accepted (verdictBytes (verdict rows))) d f d f (conflictsBytes rows) none 17 0 0 size 0 1 (ap accepted conflicting-bytes) (omega (arith, es)) refl refl refl refl refl es refl refl)
+          let q : o ≡ d = eo ∙ sym (short-left rows size es d h) in
+          rw (q, e) (meets-two-short-first (accepted (verdictBytes (verdict rows))) d f d f (conflictsBytes rows) none 17 0 0 size 0 1 (ap accepted conflicting-bytes) (omega (arith, es)) refl refl refl refl refl es refl refl)
 
-      pub conflicts-told : size ≤ length d → (o : Text) → o ≡ splice d 0 (conflictsBytes rows) → MeetsTwo (accepted (verdictBytes (verdict rows))) d f o f 0 0 1 size 0 0
-      conflicts-told h o e =
-          meets-two-conflicts (accepted (verdictBytes (verdict rows))) d f o f (conflictsBytes rows) 0 0 1 size 0 0 (ap accepted conflicting-bytes) (omega (arith, es)) (e ∙ splice-start d (conflictsBytes rows)) refl refl refl refl es refl refl
+      pub conflicts-told : size ≤ length d → MeetsTwo (accepted (verdictBytes (verdict rows))) d f o f 0 0 1 size 0 0
+      conflicts-told h =
+          let q : o ≡ splice d 0 (conflictsBytes rows) = eo ∙ sym (whole-put rows size es d h (splice d 0 (conflictsBytes rows)) refl) in
+          meets-two-conflicts (accepted (verdictBytes (verdict rows))) d f o f (conflictsBytes rows) 0 0 1 size 0 0 (ap accepted conflicting-bytes) (omega (arith, es)) (q ∙ splice-start d (conflictsBytes rows)) refl refl refl refl es refl refl
 
 -- rows without conflicts
 module _ (rows : List Row) (calm : conflicts rows ≡ []) where
@@ -108,6 +110,9 @@ module _ (op : ℕ) (specs rows d f : Text) (g : Checked) (eg : g ≡ checked (r
         let a : readRows (length (specs-read .members)) rows ≡ accepted (q .members) = rw (← specs-read .counted) (q .answer) in
         let r : rowsIn (g .count) rows ≡ q .members = rw (q .answer) in
         rw (both-read op specs rows (specs-read .members) (q .members) (specs-read .answer) a, ← r) k
+
+pub rows-counted : (n : ℕ) (rows : Text) (c : Checked) → c ≡ checked (readRows n rows) → c .refusal ≡ 0 → c .count ≡ length (rowsIn n rows)
+rows-counted n rows c e z = let q = rows-passed n rows c e z in q .counted ∙ rw (q .answer)
 
 pub rows-read : (n : ℕ) (rows : Text) (c : Checked) → c ≡ checked (readRows n rows) → c .refusal ≡ 0 → RowsRead n rows
 rows-read n rows c e z = let q = rows-passed n rows c e z in record { list = q .members; reads = q .answer }

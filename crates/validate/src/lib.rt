@@ -1,6 +1,7 @@
 // The validation of a row list: its conflicts, or its kept rows and its fixes. Port of the crate's match_group/validate.rs.
 ghost use mathlib.Core.Path.{_≡_};
 ghost use mathlib.Core.List.{[]};
+ghost use lib.ListN.{length};
 ghost use Rattle.meaning.specs.Spec.{accepted};
 ghost use Rattle.meaning.specs.Validation.{conflicts, verdict};
 ghost use Rattle.meaning.specs.Entries.{verdictBytes, validated};
@@ -10,7 +11,6 @@ ghost use Rattle.validate.specs.Answers.{refusedWith, shortOf};
 
 pub mod kept;
 
-use conflicts::conflicts_size;
 use conflicts::put_conflicts;
 use kept::fixes_size;
 use kept::kept_size;
@@ -85,19 +85,19 @@ fn passed(rows: &[u8], specs: usize, out: &mut [u8], fixes: &mut [u8]) -> Valida
     }
 }
 
-// Rows that were read: conflicts are looked for before a row goes out. The fix buffer is left alone where there are any.
-fn judged(rows: &[u8], specs: usize, out: &mut [u8], fixes: &mut [u8]) -> Validation
-    requires { ⌜ RowsRead specs (now rows) ⌝ }
+// Rows that were read, so many: conflicts are looked for before a row goes out. The fix buffer is left alone where there are any.
+fn judged(rows: &[u8], specs: usize, count: usize, out: &mut [u8], fixes: &mut [u8]) -> Validation
+    requires { ⌜ RowsRead specs (now rows) × (count ≡ length (rowsIn specs (now rows))) ⌝ }
     ensures { λ w. ⌜ MeetsTwo (accepted (verdictBytes (verdict (rowsIn specs (now (rows .entry)))))) (now (out .entry)) (now (fixes .entry)) (now (out .exit)) (now (fixes .exit)) (w .refusal) (w .record) (w .conflicts) (w .length) (w .«fixes_length») (w .buffer) ⌝ }
 {
-    let size = conflicts_size(rows, specs);
+    let room = out.len();
+    let size = put_conflicts(out, rows, specs, count);
     if size == 0 {
         return passed(rows, specs, out, fixes);
     }
-    if out.len() < size {
+    if room < size {
         return short(1, size);
     }
-    put_conflicts(out, rows, specs);
     Validation {
         refusal: 0,
         record: 0,
@@ -121,5 +121,5 @@ pub fn validated(op: u64, specs: &[u8], rows: &[u8], out: &mut [u8], fixes: &mut
     if c.refusal != 0 {
         return refused(c.refusal, c.record);
     }
-    judged(rows, n, out, fixes)
+    judged(rows, n, c.count, out, fixes)
 }

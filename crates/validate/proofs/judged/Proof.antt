@@ -1,15 +1,11 @@
 -- Where there are conflicts, they are told and the fix buffer is left alone. Assumes nothing.
-use Rattle.validate.proofs.Entry.{size-none, conflicts-short, conflicts-told}
+use Rattle.validate.proofs.Entry.{size-none, calm-told, conflicts-short, conflicts-told}
 use borrow.Author.Needs.{needs}
 use Rattle.validate.proofs.judged.Statement.{statement}
 use Rattle.validate.proofs.judged.Tie as tie
-use Rattle.validate.proofs.passed.Reads as passed-reads
-use Rattle.validate.proofs.short.Reads as short-reads
-use Rattle.conflicts.proofs.conflicts_size.Reads as conflicts-size-reads
-use Rattle.conflicts.proofs.put_conflicts.Reads as put-conflicts-reads
 
-conflicts-size-requires : tie.Need-conflicts-size-requires
-conflicts-size-requires c κs = search needs
+put-conflicts-requires : tie.Need-put-conflicts-requires
+put-conflicts-requires c κs = search needs
 
 passed-requires : tie.Need-passed-requires
 passed-requires c κs = (search needs, search size-none)
@@ -21,19 +17,19 @@ same-length-2 : tie.Need-same-length-2
 same-length-2 c = search needs
 
 returns : tie.Need-returns
-returns c = search needs
+returns c = search calm-told
 
 short-requires : tie.Need-short-requires
 short-requires c κs = search needs
 
+same-length-3 : tie.Need-same-length-3
+same-length-3 c = search needs
+
 returns-2 : tie.Need-returns-2
 returns-2 c = search conflicts-short
 
-put-conflicts-requires : tie.Need-put-conflicts-requires
-put-conflicts-requires c κs = search needs
-
-same-length-3 : tie.Need-same-length-3
-same-length-3 c = search needs
+same-length-4 : tie.Need-same-length-4
+same-length-4 c = search needs
 
 returns-3 : tie.Need-returns-3
 returns-3 c = search conflicts-told
@@ -42,13 +38,13 @@ pub judged-spec : {M : Type 1} → statement M
 judged-spec =
     tie.close
     (tie.spec
-    conflicts-size-requires
+    put-conflicts-requires
     passed-requires
     same-length
     same-length-2
     returns
     short-requires
-    returns-2
-    put-conflicts-requires
     same-length-3
+    returns-2
+    same-length-4
     returns-3)

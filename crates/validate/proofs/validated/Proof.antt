@@ -1,5 +1,5 @@
 -- Each list is read wholly, and then the rows are judged. Assumes nothing.
-use Rattle.validate.proofs.Entry.{specs-refused, rows-refused, rows-judged, rows-read}
+use Rattle.validate.proofs.Entry.{specs-refused, rows-refused, rows-judged, rows-read, rows-counted}
 use borrow.Author.Needs.{needs}
 use Rattle.validate.proofs.validated.Statement.{statement}
 use Rattle.validate.proofs.validated.Tie as tie
@@ -27,7 +27,7 @@ returns-2 : tie.Need-returns-2
 returns-2 c = search rows-refused
 
 judged-requires : tie.Need-judged-requires
-judged-requires c κs = rows-read _ _ _ (c .before .before .before .before .read-rows .ensures) (c .before .before .if2 .left)
+judged-requires c κs = (rows-read _ _ _ (c .before .before .before .before .read-rows .ensures) (c .before .before .if2 .left), rows-counted _ _ _ (c .before .before .before .before .read-rows .ensures) (c .before .before .if2 .left))
 
 same-length : tie.Need-same-length
 same-length c = search needs

@@ -14,7 +14,7 @@ slice-aggregate-put-filled : tie.Need-slice-aggregate-put-filled
 slice-aggregate-put-filled c = search filled-count
 
 put-filled-requires : tie.Need-put-filled-requires
-put-filled-requires c κs = (search needs, search needs, search filled-small, search filled-room, search needs)
+put-filled-requires c κs = (search needs, search needs, search filled-small, search filled-room)
 
 same-length : tie.Need-same-length
 same-length c = search needs

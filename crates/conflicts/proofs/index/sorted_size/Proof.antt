@@ -51,7 +51,7 @@ same-length-2 : tie.Need-same-length-2 Inv-loop μ-loop
 same-length-2 c = search needs
 
 returns : tie.Need-returns Inv-loop μ-loop
-returns c = search walking-done
+returns c = (search walking-done, search needs)
 
 pub sorted-size-spec : {M : Type 1} → statement M
 sorted-size-spec =

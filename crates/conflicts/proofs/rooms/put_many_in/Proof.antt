@@ -1,11 +1,11 @@
 -- `conflicts::rooms::put_many_in` meets its contract: no list has more rows.
-use Rattle.conflicts.proofs.Filling.{many-room}
+use Rattle.conflicts.proofs.Spelled.{many-room}
 use borrow.Author.Needs.{needs}
 use Rattle.conflicts.proofs.rooms.put_many_in.Statement.{statement}
 use Rattle.conflicts.proofs.rooms.put_many_in.Tie as tie
 
 put-indexed-requires : tie.Need-put-indexed-requires
-put-indexed-requires c κs = (search needs, search (many-room, needs), search needs, search needs, search needs)
+put-indexed-requires c κs = (search needs, search (many-room, needs), search needs, search needs)
 
 same-length : tie.Need-same-length
 same-length c = search needs
