@@ -16,6 +16,8 @@ use Rattle.promises.specs.Facts.{isByte}
 use Rattle.promises.proofs.Laws.{and-both}
 use Rattle.promises.proofs.Reading.{number-long}
 use Rattle.promises.proofs.Spelling.{one-spelling}
+use Rattle.number.specs.Reading.{Octets}
+use Rattle.list.proofs.RowStages.{octets-of}
 use Rattle.conflicts.specs.Listed.{rowsIn, RowsRead}
 use Rattle.conflicts.proofs.Walks.{list-short}
 
@@ -23,7 +25,7 @@ destination-long : (o : Option Text) → 0 < length (destinationBytes o)
 destination-long none = number-long 0
 destination-long (some t) = omega (arith, number-long (suc (length t)), length-append (numberBytes (suc (length t))) t)
 
-pub row-long : (r : Row) → 5 ≤ length (rowBytes r)
+row-long : (r : Row) → 5 ≤ length (rowBytes r)
 unfolding rowBytes textBytes
 row-long r =
     let d = destinationBytes (r .destination) in
@@ -42,13 +44,14 @@ row-long r =
       length-append (numberBytes (length (r .source))) (r .source),
     )
 
-pub all-bytes : (s : Text) → ((i : ℕ) → Fits w8 (getD s i 0)) → every isByte s ≡ true
+-- the bytes of a slice are bytes
+pub all-bytes : (s : Text) → Octets s → every isByte s ≡ true
 all-bytes [] o = refl
-all-bytes (x ∷ s) o = and-both (lt-ltb x 256 (omega (arith, o 0))) (all-bytes s (λ i. o (suc i)))
+all-bytes (x ∷ s) o = and-both (lt-ltb x 256 (o 0)) (all-bytes s (λ i. o (suc i)))
 
 -- a list that was read is the bytes of its rows
 pub spelled : (specs : ℕ) (s : Text) → RowsRead specs s → ((i : ℕ) → Fits w8 (getD s i 0)) → s ≡ rowListOf (rowsIn specs s)
-spelled specs s r o = one-spelling .1 specs s (r .list) (all-bytes s o) (r .reads) ∙ ap rowListOf (rw (r .reads))
+spelled specs s r o = one-spelling .1 specs s (r .list) (all-bytes s (octets-of s o)) (r .reads) ∙ ap rowListOf (rw (r .reads))
 
 rows-long : (l : List Row) → 5 * length l ≤ length (rowListOf l)
 unfolding rowListOf

@@ -68,10 +68,10 @@ module _ (rows : List Row) (calm : conflicts rows ≡ []) where
       fixes-short g w e =
           rw e (meets-two-short-second (accepted (verdictBytes (verdict rows))) d f d f (rowListOf (keep isKept rows)) (each (each rows fixOf) fixBytes) 17 0 0 fixed 0 2 (ap accepted passing-bytes) (omega (arith, ek)) (omega (arith, ef)) refl refl refl refl refl ef refl refl)
 
-      pub passes-told : fixed ≤ length f → (o p : Text) → o ≡ splice d 0 (rowListOf (keep isKept rows)) → p ≡ splice f 0 (each (each rows fixOf) fixBytes) → MeetsTwo (accepted (verdictBytes (verdict rows))) d f o p 0 0 0 kept fixed 0
-      passes-told g o p eo ep =
-          meets-two-passes (accepted (verdictBytes (verdict rows))) d f o p (rowListOf (keep isKept rows)) (each (each rows fixOf) fixBytes) 0 0 0 kept fixed 0 (ap accepted passing-bytes) (omega (arith, ek)) (omega (arith, ef))
-          (eo ∙ splice-start d (rowListOf (keep isKept rows))) (ep ∙ splice-start f (each (each rows fixOf) fixBytes)) refl refl refl ek ef refl
+    pub passes-told : length (rowListOf (keep isKept rows)) ≤ length d → length (each (each rows fixOf) fixBytes) ≤ length f → (o p : Text) → o ≡ splice d 0 (rowListOf (keep isKept rows)) → p ≡ splice f 0 (each (each rows fixOf) fixBytes) → MeetsTwo (accepted (verdictBytes (verdict rows))) d f o p 0 0 0 kept fixed 0
+    passes-told h g o p eo ep =
+        meets-two-passes (accepted (verdictBytes (verdict rows))) d f o p (rowListOf (keep isKept rows)) (each (each rows fixOf) fixBytes) 0 0 0 kept fixed 0 (ap accepted passing-bytes) h g
+        (eo ∙ splice-start d (rowListOf (keep isKept rows))) (ep ∙ splice-start f (each (each rows fixOf) fixBytes)) refl refl refl ek ef refl
 
 -- what the lists are read as
 specs-turned : (op : ℕ) (specs rows : Text) (n : ℕ) (r : Option ℕ) → readSpecs op specs ≡ refused n r → validated op specs rows ≡ refused n r

@@ -2,7 +2,8 @@
 use mathlib.Core.Path.{_≡_, refl, sym, ap, _∙_}
 use mathlib.Core.Bool.{Bool, true, false, cond}
 use mathlib.Core.List.{[], _∷_, _++_, append-assoc, append-nil}
-use Prim.Native.Nat.{ℕ, _+_, _-_, _≤_}
+use mathlib.Core.Option.{Option, none, some}
+use Prim.Native.Nat.{ℕ, suc, _+_, _-_, _≤_}
 use native.Mathlib.Omega.{arith}
 use mir.Val.{Fits}
 use mir.Syntax.{w64}
@@ -10,7 +11,9 @@ use lib.ListN.{length, take, drop, length-append, length-drop}
 use lib.Seq.{length-take-le}
 use Rattle.meaning.specs.Bytes.{Text, each}
 use Rattle.meaning.specs.Number.{numberBytes, textBytes}
-use Rattle.meaning.specs.Validation.{isFull, fixBytes}
+use Rattle.meaning.specs.Rows.{Row, destinationBytes, rowBytes}
+use Rattle.meaning.specs.Validation.{isFull, fixBy, fixBytes}
+use Rattle.promises.proofs.Reading.{number-long}
 use Rattle.text.specs.Splice.{splice}
 use Rattle.text.proofs.Splices.{splice-none}
 use Rattle.text.proofs.Threes.{three-first, three-second, three-third, three-put, three-end}
@@ -18,7 +21,7 @@ use Rattle.number.proofs.Bytes.{bytes-few}
 use Rattle.parse.specs.declared.types.Side.{Side}
 use Rattle.parse.specs.declared.types.Side.the-variants.{Absent, Part, Head}
 use Rattle.parse.specs.Places.{partAt, sideMeant}
-use Rattle.validate.specs.Rows.{fixOn, fixFor}
+use Rattle.validate.specs.Rows.{fixOn, fixFor, rowFix}
 
 -- the bytes of a destination as they are lent
 abbrev pub nameAt : Text → ℕ → ℕ → Text
@@ -137,3 +140,38 @@ module _ (s : Text) (i : ℕ) (side : Side) where
 
       pub part-end : (r : ℕ) → r ≡ to + length (fixOn i (partAt s at n)) → r ≡ to + length (fixFor i (sideMeant s side))
       part-end r f = f ∙ ap (λ (x : Text). to + length x) (sym (part-for at n e))
+
+-- a fix is no longer than its row, which has the same destination, four numbers more and the spec number
+fix-long : (i : ℕ) (t : Text) → length (fixBytes (record { name = t; spec = i })) ≤ 3 + length t + length (numberBytes i)
+unfolding fixBytes textBytes
+fix-long i t = omega (arith, bytes-few (length t), length-append (numberBytes (length t) ++ t) (numberBytes i), length-append (numberBytes (length t)) t)
+
+pub fix-shorter : (r : Row) → length (rowFix r) ≤ length (rowBytes r)
+unfolding rowFix fixFor rowBytes textBytes
+fix-shorter r = go (r .destination)
+  where
+    whole : (d : Text) → length (numberBytes (r .item) ++ (numberBytes (r .spec) ++ (numberBytes (r .kind) ++ ((numberBytes (length (r .source)) ++ r .source) ++ d)))) ≡ length (numberBytes (r .item)) + length (numberBytes (r .spec)) + length (numberBytes (r .kind)) + length (numberBytes (length (r .source))) + length (r .source) + length d
+    whole d =
+        let t = numberBytes (length (r .source)) ++ r .source in
+        omega (
+          arith,
+          length-append (numberBytes (r .item)) (numberBytes (r .spec) ++ (numberBytes (r .kind) ++ (t ++ d))),
+          length-append (numberBytes (r .spec)) (numberBytes (r .kind) ++ (t ++ d)),
+          length-append (numberBytes (r .kind)) (t ++ d),
+          length-append t d,
+          length-append (numberBytes (length (r .source))) (r .source),
+        )
+
+    four : 4 ≤ length (numberBytes (r .item)) + length (numberBytes (r .kind)) + length (numberBytes (length (r .source))) + 1
+    four = omega (arith, number-long (r .item), number-long (r .kind), number-long (length (r .source)))
+
+    go : (o : Option Text) → length (each (fixBy (r .spec) o) fixBytes) ≤ length (numberBytes (r .item) ++ (numberBytes (r .spec) ++ (numberBytes (r .kind) ++ ((numberBytes (length (r .source)) ++ r .source) ++ destinationBytes o))))
+    go none = omega arith
+    go (some t) = at (isFull t)
+      where
+        size : length (destinationBytes (some t)) ≡ length (numberBytes (suc (length t))) + length t
+        size = length-append (numberBytes (suc (length t))) t
+
+        at : (b : Bool) → length (each (cond b [] (record { name = t; spec = r .spec } ∷ [])) fixBytes) ≤ length (numberBytes (r .item) ++ (numberBytes (r .spec) ++ (numberBytes (r .kind) ++ ((numberBytes (length (r .source)) ++ r .source) ++ destinationBytes (some t)))))
+        at true = omega arith
+        at false = omega (arith, fix-long (r .spec) t, whole (destinationBytes (some t)), size, four, number-long (suc (length t)), ap length (append-nil (fixBytes (record { name = t; spec = r .spec }))))

@@ -2,16 +2,15 @@
 use mathlib.Core.Path.{_≡_, refl, sym, ap, _∙_}
 use mathlib.Core.Bool.{Bool, true, false, not, cond}
 use mathlib.Core.List.{[], _∷_, _++_}
-use Prim.Native.Nat.{ℕ, suc, _+_, _-_, _≤_}
+use mathlib.Core.Option.{Option, none, some}
+use Prim.Native.Nat.{ℕ, _+_, _-_, _≤_}
 use native.Mathlib.Omega.{arith}
-use borrow.Author.Tests.{lt-ltb}
+use borrow.Author.Tests.{not-false}
 use lib.ListN.{length, take, drop, length-append, length-drop}
 use lib.Seq.{take-at, getD-drop}
-use Rattle.meaning.specs.Bytes.{Text, every, ifGiven}
+use Rattle.meaning.specs.Bytes.{Text, each, ifGiven}
 use Rattle.meaning.specs.Rows.{rowBytes}
-use Rattle.meaning.specs.Validation.{isFull, isKept}
-use Rattle.promises.specs.Facts.{isByte}
-use Rattle.promises.proofs.Laws.{and-both}
+use Rattle.meaning.specs.Validation.{isFull, isKept, fixBy, fixBytes}
 use Rattle.promises.proofs.Spelling.{row-record-spelled}
 use Rattle.text.specs.Splice.{splice}
 use Rattle.text.proofs.Splices.{splice-none}
@@ -19,12 +18,8 @@ use Rattle.number.specs.Reading.{Octets}
 use Rattle.parse.specs.Places.{sideMeant}
 use Rattle.list.specs.declared.rows.RowPlace.{RowPlace}
 use Rattle.list.specs.Rows.{rowMeant, RowTaken}
-use Rattle.validate.specs.Rows.{keptBytes}
-
--- the bytes of a slice are bytes
-all-bytes : (s : Text) → Octets s → every isByte s ≡ true
-all-bytes [] o = refl
-all-bytes (x ∷ s) o = and-both (lt-ltb x 256 (o 0)) (all-bytes s (λ i. o (suc i)))
+use Rattle.conflicts.proofs.Spelled.{all-bytes}
+use Rattle.validate.specs.Rows.{keptBytes, fixFor, rowFix}
 
 module _ (specs : ℕ) (s : Text) (at : ℕ) (row : RowPlace) (end : ℕ) (t : RowTaken specs s at row end) (octets : Octets s) where
   spelled : drop at s ≡ rowBytes (rowMeant s row) ++ drop end s
@@ -62,6 +57,36 @@ module _ (specs : ℕ) (s : Text) (at : ℕ) (row : RowPlace) (end : ℕ) (t : R
 
       pub kept-end : (r : ℕ) → r ≡ to + length (take (end - at) (drop at s)) → r ≡ to + length (keptBytes (rowMeant s row))
       kept-end r k = k ∙ ap (λ (x : Text). to + length x) (stands ∙ sym kept)
+
+-- a row that is kept has no fix
+module _ (s : Text) (row : RowPlace) (b : Bool) (e : b ≡ ifGiven isFull (sideMeant s (row .dst))) (h : not b ≡ false) where
+  no-fix : rowFix (rowMeant s row) ≡ []
+  unfolding rowFix fixFor rowMeant
+  no-fix = go (sideMeant s (row .dst)) e
+    where
+      go : (o : Option Text) → b ≡ ifGiven isFull o → each (fixBy (row .spec) o) fixBytes ≡ []
+      go none f = refl
+      go (some t) f = let q : isFull t ≡ true = sym f ∙ not-false b h in rw q
+
+  pub no-fix-put : (d : Text) (to : ℕ) → d ≡ splice d to (rowFix (rowMeant s row))
+  no-fix-put d to = rw no-fix (sym (splice-none d to))
+
+  pub no-fix-end : (to : ℕ) → to ≡ to + length (rowFix (rowMeant s row))
+  no-fix-end to = rw no-fix (omega arith)
+
+-- the fix of a row, by its spec number and its destination
+module _ (s : Text) (row : RowPlace) (d : Text) (to : ℕ) where
+  pub fix-room : to + length (rowFix (rowMeant s row)) ≤ length d → to + length (fixFor (row .spec) (sideMeant s (row .dst))) ≤ length d
+  unfolding rowFix rowMeant
+  fix-room h = h
+
+  pub fix-put : (o : Text) → o ≡ splice d to (fixFor (row .spec) (sideMeant s (row .dst))) → o ≡ splice d to (rowFix (rowMeant s row))
+  unfolding rowFix rowMeant
+  fix-put o h = h
+
+  pub fix-end : (r : ℕ) → r ≡ to + length (fixFor (row .spec) (sideMeant s (row .dst))) → r ≡ to + length (rowFix (rowMeant s row))
+  unfolding rowFix rowMeant
+  fix-end r h = h
 
 -- a row that goes out
 module _ (s : Text) (row : RowPlace) (b : Bool) (e : b ≡ ifGiven isFull (sideMeant s (row .dst))) (h : not b ≡ true) where

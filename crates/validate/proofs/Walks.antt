@@ -4,16 +4,17 @@ use mathlib.Core.Path.{_≡_, refl, sym, ap, _∙_}
 use mathlib.Core.Bool.{Bool, true, false, cond}
 use mathlib.Core.List.{List, [], _∷_, _++_, append-assoc}
 use Prim.Native.Nat.{ℕ, suc, _+_, _*_, _≤_}
+use native.Mathlib.Nat.{zero-add}
 use native.Mathlib.Omega.{arith}
 use mir.Val.{Fits}
-use mir.Syntax.{w64}
-use lib.ListN.{length, length-append}
+use mir.Syntax.{w8, w64}
+use lib.ListN.{length, getD, length-append}
 use Rattle.meaning.specs.Bytes.{Text, keep, each}
 use Rattle.meaning.specs.Spec.{accepted}
 use Rattle.meaning.specs.Rows as meaning
 use Rattle.meaning.specs.Validation.{isKept, fixOf, fixBytes}
 use Rattle.text.specs.Splice.{splice}
-use Rattle.text.proofs.Writing.{Writing, writing-starts, writing-room, writing-more, written-whole}
+use Rattle.text.proofs.Writing.{Writing, writing-starts, writing-room, writing-more, written-place, written-whole}
 use Rattle.parse.specs.Places.{sideMeant, Within}
 use Rattle.list.specs.declared.cursor.Cursor.{Cursor}
 use Rattle.list.specs.declared.rows.RowPlace.{RowPlace}
@@ -23,7 +24,9 @@ use Rattle.list.specs.Rows.{rowMeant, RowTaken, RowSays}
 use Rattle.list.proofs.RowWalks.{RowsLeft, rows-left, RowNext, rows-next, rows-end, rows-refused}
 use Rattle.conflicts.specs.Listed.{rowsIn, RowsRead}
 use Rattle.conflicts.proofs.Walks.{list-short}
+use Rattle.conflicts.proofs.Spelled.{spelled}
 use Rattle.validate.specs.Rows.{keptBytes, fixFor, rowFix}
+use Rattle.validate.proofs.Fixes.{fix-shorter}
 
 -- what the rows give, row by row
 
@@ -44,6 +47,31 @@ fixes-each : (l : List meaning.Row) → each (each l fixOf) fixBytes ≡ each l 
 unfolding fixOf rowFix fixFor
 fixes-each [] = refl
 fixes-each (r ∷ l) = each-append (fixOf r) (each l fixOf) fixBytes ∙ ap (λ (k : Text). each (fixOf r) fixBytes ++ k) (fixes-each l)
+
+-- what the rows give is no longer than the rows
+
+each-shorter : (f g : meaning.Row → Text) → ((r : meaning.Row) → length (f r) ≤ length (g r)) → (l : List meaning.Row) → length (each l f) ≤ length (each l g)
+each-shorter f g h [] = omega arith
+each-shorter f g h (r ∷ l) = omega (arith, h r, each-shorter f g h l, length-append (f r) (each l f), length-append (g r) (each l g))
+
+kept-shorter : (r : meaning.Row) → length (keptBytes r) ≤ length (meaning.rowBytes r)
+unfolding keptBytes
+kept-shorter r = go (isKept r)
+  where
+    go : (b : Bool) → length (cond b (meaning.rowBytes r) []) ≤ length (meaning.rowBytes r)
+    go true = omega arith
+    go false = omega arith
+
+module _ (specs : ℕ) (s : Text) (r : RowsRead specs s) (o : (i : ℕ) → Fits w8 (getD s i 0)) where
+  rows-spelled : length s ≡ length (each (rowsIn specs s) meaning.rowBytes)
+  unfolding meaning.rowListOf
+  rows-spelled = ap length (spelled specs s r o)
+
+  pub kept-within : (d : ℕ) → length s ≤ d → length (meaning.rowListOf (keep isKept (rowsIn specs s))) ≤ d
+  kept-within d h = omega (arith, rows-spelled, ap length (kept-each (rowsIn specs s)), each-shorter keptBytes meaning.rowBytes kept-shorter (rowsIn specs s))
+
+  pub fixes-within : (d : ℕ) → length s ≤ d → length (each (each (rowsIn specs s) fixOf) fixBytes) ≤ d
+  fixes-within d h = omega (arith, rows-spelled, ap length (fixes-each (rowsIn specs s)), each-shorter rowFix meaning.rowBytes fix-shorter (rowsIn specs s))
 
 -- a list that was read
 rows-are : (specs : ℕ) (s : Text) (l : List meaning.Row) → meaning.readRows specs s ≡ accepted l → rowsIn specs s ≡ l
@@ -171,7 +199,7 @@ module _ (specs : ℕ) (s : Text) (f : meaning.Row → Text) (d : Text) (at : �
           let r = next-row specs s at w says row next e (c .number) (c .rest) (c .walk) in
           writing-room d 0 (each (rowsIn specs s) f) out to (each (c .rest) f) (c .writing) (f (rowMeant s row)) (each (r .after) f) (next-text specs s at w says row next e (c .number) (c .rest) (c .walk) f)
 
-      written-more : (o : Text) (i : ℕ) → o ≡ splice out to (f (rowMeant s row)) → i ≡ to + length (f (rowMeant s row)) → Written specs s f d (next .at) o i
+      pub written-more : (o : Text) (i : ℕ) → o ≡ splice out to (f (rowMeant s row)) → i ≡ to + length (f (rowMeant s row)) → Written specs s f d (next .at) o i
       written-more o i eo ei =
           let r = next-row specs s at w says row next e (c .number) (c .rest) (c .walk) in
           record {
@@ -181,40 +209,45 @@ module _ (specs : ℕ) (s : Text) (f : meaning.Row → Text) (d : Text) (at : �
             writing = writing-more d 0 (each (rowsIn specs s) f) out to (each (c .rest) f) (c .writing) (f (rowMeant s row)) (each (r .after) f) (next-text specs s at w says row next e (c .number) (c .rest) (c .walk) f) o i eo ei;
           }
 
+    written-length : w ≡ End → to ≡ length (each (rowsIn specs s) f)
+    written-length e = written-place d 0 (each (rowsIn specs s) f) out to (each (c .rest) f) (c .writing) (ap (λ (l : List meaning.Row). each l f) (rows-end specs s at (c .number) (c .rest) (c .walk .left) w says e)) ∙ zero-add (length (each (rowsIn specs s) f))
+
     written-all : w ≡ End → out ≡ splice d 0 (each (rowsIn specs s) f)
     written-all e = written-whole d 0 (each (rowsIn specs s) f) out to (each (c .rest) f) (c .writing) (ap (λ (l : List meaning.Row). each l f) (rows-end specs s at (c .number) (c .rest) (c .walk .left) w says e))
 
     written-none : {A : Type 0} (n : ℕ) → w ≡ Refused n → A
     written-none n e = rows-refused specs s at (c .number) (c .rest) (c .walk .left) w says n e
 
--- the turns and the ends of the loops that write
+-- the turns and the ends of the loop that writes
 module _ (specs : ℕ) (s d : Text) (at : ℕ) (out : Text) (to : ℕ) (w : RowStep) (says : RowSays specs s at w) where
   module _ (c : Written specs s keptBytes d at out to) where
-    module _ (row : RowPlace) (next : Cursor) (e : w ≡ Row row next) where
-      pub row-room : to + length (keptBytes (rowMeant s row)) ≤ length out
-      row-room = written-room specs s keptBytes d at out to c w says row next e
-
-      pub row-written : (o : Text) (i : ℕ) → o ≡ splice out to (keptBytes (rowMeant s row)) → i ≡ to + length (keptBytes (rowMeant s row)) → Written specs s keptBytes d (next .at) o i
-      row-written o i eo ei = written-more specs s keptBytes d at out to c w says row next e o i eo ei
+    pub kept-room : (row : RowPlace) (next : Cursor) → w ≡ Row row next → to + length (keptBytes (rowMeant s row)) ≤ length out
+    kept-room row next e = written-room specs s keptBytes d at out to c w says row next e
 
     pub kept-written : w ≡ End → out ≡ splice d 0 (meaning.rowListOf (keep isKept (rowsIn specs s)))
     kept-written e = written-all specs s keptBytes d at out to c w says e ∙ ap (splice d 0) (sym (kept-each (rowsIn specs s)))
 
+    pub kept-length : w ≡ End → to ≡ length (meaning.rowListOf (keep isKept (rowsIn specs s)))
+    kept-length e = written-length specs s keptBytes d at out to c w says e ∙ ap length (sym (kept-each (rowsIn specs s)))
+
     pub kept-unwritten : (n : ℕ) → w ≡ Refused n → out ≡ splice d 0 (meaning.rowListOf (keep isKept (rowsIn specs s)))
     kept-unwritten n e = written-none specs s keptBytes d at out to c w says n e
 
-  module _ (c : Written specs s rowFix d at out to) where
-    module _ (row : RowPlace) (next : Cursor) (e : w ≡ Row row next) where
-      pub fix-room : to + length (fixFor (row .spec) (sideMeant s (row .dst))) ≤ length out
-      unfolding rowFix rowMeant
-      fix-room = written-room specs s rowFix d at out to c w says row next e
+    pub kept-no-length : (n : ℕ) → w ≡ Refused n → to ≡ length (meaning.rowListOf (keep isKept (rowsIn specs s)))
+    kept-no-length n e = written-none specs s keptBytes d at out to c w says n e
 
-      pub fix-written : (o : Text) (i : ℕ) → o ≡ splice out to (fixFor (row .spec) (sideMeant s (row .dst))) → i ≡ to + length (fixFor (row .spec) (sideMeant s (row .dst))) → Written specs s rowFix d (next .at) o i
-      unfolding rowFix rowMeant
-      fix-written o i eo ei = written-more specs s rowFix d at out to c w says row next e o i eo ei
+  module _ (c : Written specs s rowFix d at out to) where
+    pub fixes-room : (row : RowPlace) (next : Cursor) → w ≡ Row row next → to + length (rowFix (rowMeant s row)) ≤ length out
+    fixes-room row next e = written-room specs s rowFix d at out to c w says row next e
 
     pub fixes-written : w ≡ End → out ≡ splice d 0 (each (each (rowsIn specs s) fixOf) fixBytes)
     fixes-written e = written-all specs s rowFix d at out to c w says e ∙ ap (splice d 0) (sym (fixes-each (rowsIn specs s)))
 
+    pub fixes-length : w ≡ End → to ≡ length (each (each (rowsIn specs s) fixOf) fixBytes)
+    fixes-length e = written-length specs s rowFix d at out to c w says e ∙ ap length (sym (fixes-each (rowsIn specs s)))
+
     pub fixes-unwritten : (n : ℕ) → w ≡ Refused n → out ≡ splice d 0 (each (each (rowsIn specs s) fixOf) fixBytes)
     fixes-unwritten n e = written-none specs s rowFix d at out to c w says n e
+
+    pub fixes-no-length : (n : ℕ) → w ≡ Refused n → to ≡ length (each (each (rowsIn specs s) fixOf) fixBytes)
+    fixes-no-length n e = written-none specs s rowFix d at out to c w says n e

@@ -11,12 +11,18 @@ ghost use Rattle.number.specs.Reading.{largestNumber};
 ghost use Rattle.parse.specs.Places.{partAt, sideMeant, Within};
 ghost use Rattle.list.specs.Rows.{rowMeant, RowTaken};
 ghost use Rattle.conflicts.specs.Listed.{rowsIn, RowsRead};
-ghost use Rattle.validate.specs.Rows.{keptBytes, fixOn, fixFor};
+ghost use Rattle.validate.specs.Rows.{keptBytes, fixOn, fixFor, rowFix};
 use list::cursor::Cursor;
 use list::rows::RowPlace;
 use list::rows::RowStep;
 use list::rows::next_row;
 use parse::types::Side;
+
+// How many bytes the kept rows and the fixes take.
+pub struct Lengths {
+    pub kept: usize,
+    pub fixed: usize,
+}
 
 // A destination is full: it begins `refs/` or is `HEAD`.
 pub fn is_full(t: &[u8]) -> bool
@@ -61,76 +67,6 @@ fn row_size(rows: &[u8], specs: usize, at: usize, row: RowPlace, end: usize) -> 
     end - at
 }
 
-// How many bytes the kept rows of a row list take.
-pub fn kept_size(rows: &[u8], specs: usize) -> usize
-    requires { ⌜ RowsRead specs (now rows) ⌝ }
-    ensures { λ r. ⌜ r ≡ length (rowListOf (keep isKept (rowsIn specs (now (rows .entry))))) ⌝ }
-{
-    let mut size = 0;
-    let mut c = Cursor::new();
-    loop {
-        let at = c.at;
-        match next_row(c, rows, specs) {
-            RowStep::Row { row, next } => {
-                let end = next.at;
-                size += row_size(rows, specs, at, row, end);
-                c = next;
-            }
-            RowStep::End => {
-                return size;
-            }
-            RowStep::Refused(_) => {
-                return size;
-            }
-        }
-    }
-}
-
-// Copies a row that ends at `end` into the buffer at `to`, if it is kept, and answers the place after it.
-fn put_row(
-    out: &mut [u8],
-    to: usize,
-    rows: &[u8],
-    specs: usize,
-    at: usize,
-    row: RowPlace,
-    end: usize,
-) -> usize
-    requires { ⌜ RowTaken specs (now rows) at row end × (to + length (keptBytes (rowMeant (now rows) row)) ≤ length (now out)) ⌝ }
-    ensures { λ r. ⌜ (now (out .exit) ≡ splice (now (out .entry)) to (keptBytes (rowMeant (now (rows .entry)) row))) × (r ≡ to + length (keptBytes (rowMeant (now (rows .entry)) row))) ⌝ }
-{
-    let dst = row.dst;
-    if !is_kept(rows, dst) {
-        return to;
-    }
-    text::put(out, to, &rows[at..end])
-}
-
-// Writes the kept rows of a row list at the start of the buffer.
-pub fn put_kept(out: &mut [u8], rows: &[u8], specs: usize)
-    requires { ⌜ RowsRead specs (now rows) × (length (rowListOf (keep isKept (rowsIn specs (now rows)))) ≤ length (now out)) ⌝ }
-    ensures { λ _. ⌜ now (out .exit) ≡ splice (now (out .entry)) 0 (rowListOf (keep isKept (rowsIn specs (now (rows .entry))))) ⌝ }
-{
-    let mut to = 0;
-    let mut c = Cursor::new();
-    loop {
-        let at = c.at;
-        match next_row(c, rows, specs) {
-            RowStep::Row { row, next } => {
-                let end = next.at;
-                to = put_row(out, to, rows, specs, at, row, end);
-                c = next;
-            }
-            RowStep::End => {
-                return;
-            }
-            RowStep::Refused(_) => {
-                return;
-            }
-        }
-    }
-}
-
 // How many bytes the fix of a destination takes, which has n bytes that begin at `at`; a full one gives none.
 fn name_fix_size(rows: &[u8], at: usize, n: usize, spec: usize) -> usize
     requires { ⌜ (at + n ≤ length (now rows)) × (length (now rows) ≤ rowListBytes) × (spec ≤ largestNumber) ⌝ }
@@ -154,26 +90,30 @@ fn fix_size(rows: &[u8], spec: usize, dst: Side) -> usize
     }
 }
 
-// How many bytes the fixes of a row list take.
-pub fn fixes_size(rows: &[u8], specs: usize) -> usize
+// How many bytes the kept rows and the fixes of a row list take.
+pub fn measure(rows: &[u8], specs: usize) -> Lengths
     requires { ⌜ RowsRead specs (now rows) ⌝ }
-    ensures { λ r. ⌜ r ≡ length (each (each (rowsIn specs (now (rows .entry))) fixOf) fixBytes) ⌝ }
+    ensures { λ n. ⌜ (n .kept ≡ length (rowListOf (keep isKept (rowsIn specs (now (rows .entry)))))) × (n .fixed ≡ length (each (each (rowsIn specs (now (rows .entry))) fixOf) fixBytes)) ⌝ }
 {
-    let mut size = 0;
+    let mut kept = 0;
+    let mut fixed = 0;
     let mut c = Cursor::new();
     loop {
+        let at = c.at;
         match next_row(c, rows, specs) {
             RowStep::Row { row, next } => {
+                let end = next.at;
                 let spec = row.spec;
                 let dst = row.dst;
-                size += fix_size(rows, spec, dst);
+                kept += row_size(rows, specs, at, row, end);
+                fixed += fix_size(rows, spec, dst);
                 c = next;
             }
             RowStep::End => {
-                return size;
+                return Lengths { kept, fixed };
             }
             RowStep::Refused(_) => {
-                return size;
+                return Lengths { kept, fixed };
             }
         }
     }
@@ -205,26 +145,56 @@ fn put_fix(out: &mut [u8], to: usize, rows: &[u8], spec: usize, dst: Side) -> us
     }
 }
 
-// Writes the fixes of a row list at the start of the buffer.
-pub fn put_fixes(out: &mut [u8], rows: &[u8], specs: usize)
-    requires { ⌜ RowsRead specs (now rows) × (length (each (each (rowsIn specs (now rows)) fixOf) fixBytes) ≤ length (now out)) ⌝ }
-    ensures { λ _. ⌜ now (out .exit) ≡ splice (now (out .entry)) 0 (each (each (rowsIn specs (now (rows .entry))) fixOf) fixBytes) ⌝ }
+// Copies a row that ends at `end` to the kept rows, or writes its fix where it goes out. Answers the places after what is written.
+fn put_either(
+    out: &mut [u8],
+    fixes: &mut [u8],
+    to: Lengths,
+    rows: &[u8],
+    specs: usize,
+    at: usize,
+    row: RowPlace,
+    end: usize,
+) -> Lengths
+    requires { ⌜ RowTaken specs (now rows) at row end × (length (now rows) ≤ rowListBytes) × (to .kept + length (keptBytes (rowMeant (now rows) row)) ≤ length (now out)) × (to .fixed + length (rowFix (rowMeant (now rows) row)) ≤ length (now fixes)) ⌝ }
+    ensures { λ r. ⌜ (now (out .exit) ≡ splice (now (out .entry)) (to .kept) (keptBytes (rowMeant (now (rows .entry)) row))) × (now (fixes .exit) ≡ splice (now (fixes .entry)) (to .fixed) (rowFix (rowMeant (now (rows .entry)) row))) × (r .kept ≡ to .kept + length (keptBytes (rowMeant (now (rows .entry)) row))) × (r .fixed ≡ to .fixed + length (rowFix (rowMeant (now (rows .entry)) row))) ⌝ }
 {
-    let mut to = 0;
+    let dst = row.dst;
+    if !is_kept(rows, dst) {
+        let spec = row.spec;
+        let fixed = put_fix(fixes, to.fixed, rows, spec, dst);
+        return Lengths {
+            kept: to.kept,
+            fixed,
+        };
+    }
+    let kept = text::put(out, to.kept, &rows[at..end]);
+    Lengths {
+        kept,
+        fixed: to.fixed,
+    }
+}
+
+// Writes the kept rows of a row list at the start of one buffer and the fixes at the start of the other, and answers their lengths.
+pub fn put_rows(out: &mut [u8], fixes: &mut [u8], rows: &[u8], specs: usize) -> Lengths
+    requires { ⌜ RowsRead specs (now rows) × (length (rowListOf (keep isKept (rowsIn specs (now rows)))) ≤ length (now out)) × (length (each (each (rowsIn specs (now rows)) fixOf) fixBytes) ≤ length (now fixes)) ⌝ }
+    ensures { λ n. ⌜ (now (out .exit) ≡ splice (now (out .entry)) 0 (rowListOf (keep isKept (rowsIn specs (now (rows .entry)))))) × (now (fixes .exit) ≡ splice (now (fixes .entry)) 0 (each (each (rowsIn specs (now (rows .entry))) fixOf) fixBytes)) × (n .kept ≡ length (rowListOf (keep isKept (rowsIn specs (now (rows .entry)))))) × (n .fixed ≡ length (each (each (rowsIn specs (now (rows .entry))) fixOf) fixBytes)) ⌝ }
+{
+    let mut to = Lengths { kept: 0, fixed: 0 };
     let mut c = Cursor::new();
     loop {
+        let at = c.at;
         match next_row(c, rows, specs) {
             RowStep::Row { row, next } => {
-                let spec = row.spec;
-                let dst = row.dst;
-                to = put_fix(out, to, rows, spec, dst);
+                let end = next.at;
+                to = put_either(out, fixes, to, rows, specs, at, row, end);
                 c = next;
             }
             RowStep::End => {
-                return;
+                return to;
             }
             RowStep::Refused(_) => {
-                return;
+                return to;
             }
         }
     }

@@ -1,9 +1,12 @@
 // The validation of a row list: its conflicts, or its kept rows and its fixes. Port of the crate's match_group/validate.rs.
 ghost use mathlib.Core.Path.{_≡_};
 ghost use mathlib.Core.List.{[]};
+ghost use Prim.Native.Nat.{_≤_};
 ghost use lib.ListN.{length};
+ghost use Rattle.meaning.specs.Bytes.{keep, each};
+ghost use Rattle.meaning.specs.Rows.{rowListOf};
 ghost use Rattle.meaning.specs.Spec.{accepted};
-ghost use Rattle.meaning.specs.Validation.{conflicts, verdict};
+ghost use Rattle.meaning.specs.Validation.{conflicts, verdict, isKept, fixOf, fixBytes};
 ghost use Rattle.meaning.specs.Entries.{verdictBytes, validated};
 ghost use Rattle.meaning.specs.Buffers.{MeetsTwo};
 ghost use Rattle.conflicts.specs.Listed.{rowsIn, RowsRead};
@@ -12,10 +15,8 @@ ghost use Rattle.validate.specs.Answers.{refusedWith, shortOf};
 pub mod kept;
 
 use conflicts::put_conflicts;
-use kept::fixes_size;
-use kept::kept_size;
-use kept::put_fixes;
-use kept::put_kept;
+use kept::measure;
+use kept::put_rows;
 use list::rows::read_rows;
 use list::specs::check_specs;
 
@@ -60,29 +61,51 @@ fn short(buffer: u64, needed: usize) -> Validation
     }
 }
 
-// Rows without conflicts: those that are kept, and the fixes of the others. Both buffers are asked before one is written.
-fn passed(rows: &[u8], specs: usize, out: &mut [u8], fixes: &mut [u8]) -> Validation
+// Rows without conflicts, for which both buffers have room.
+fn written(rows: &[u8], specs: usize, out: &mut [u8], fixes: &mut [u8]) -> Validation
+    requires { ⌜ RowsRead specs (now rows) × (conflicts (rowsIn specs (now rows)) ≡ []) × (length (rowListOf (keep isKept (rowsIn specs (now rows)))) ≤ length (now out)) × (length (each (each (rowsIn specs (now rows)) fixOf) fixBytes) ≤ length (now fixes)) ⌝ }
+    ensures { λ w. ⌜ MeetsTwo (accepted (verdictBytes (verdict (rowsIn specs (now (rows .entry)))))) (now (out .entry)) (now (fixes .entry)) (now (out .exit)) (now (fixes .exit)) (w .refusal) (w .record) (w .conflicts) (w .length) (w .«fixes_length») (w .buffer) ⌝ }
+{
+    let n = put_rows(out, fixes, rows, specs);
+    Validation {
+        refusal: 0,
+        record: 0,
+        conflicts: 0,
+        length: n.kept as u64,
+        fixes_length: n.fixed as u64,
+        buffer: 0,
+    }
+}
+
+// Rows without conflicts, measured. Both buffers are asked before one is written.
+fn measured(rows: &[u8], specs: usize, out: &mut [u8], fixes: &mut [u8]) -> Validation
     requires { ⌜ RowsRead specs (now rows) × (conflicts (rowsIn specs (now rows)) ≡ []) ⌝ }
     ensures { λ w. ⌜ MeetsTwo (accepted (verdictBytes (verdict (rowsIn specs (now (rows .entry)))))) (now (out .entry)) (now (fixes .entry)) (now (out .exit)) (now (fixes .exit)) (w .refusal) (w .record) (w .conflicts) (w .length) (w .«fixes_length») (w .buffer) ⌝ }
 {
-    let kept = kept_size(rows, specs);
-    let fixed = fixes_size(rows, specs);
+    let n = measure(rows, specs);
+    let kept = n.kept;
+    let fixed = n.fixed;
     if out.len() < kept {
         return short(1, kept);
     }
     if fixes.len() < fixed {
         return short(2, fixed);
     }
-    put_kept(out, rows, specs);
-    put_fixes(fixes, rows, specs);
-    Validation {
-        refusal: 0,
-        record: 0,
-        conflicts: 0,
-        length: kept as u64,
-        fixes_length: fixed as u64,
-        buffer: 0,
+    written(rows, specs, out, fixes)
+}
+
+// Rows without conflicts: those that are kept, and the fixes of the others. A buffer as long as the row list has room without measuring.
+fn passed(rows: &[u8], specs: usize, out: &mut [u8], fixes: &mut [u8]) -> Validation
+    requires { ⌜ RowsRead specs (now rows) × (conflicts (rowsIn specs (now rows)) ≡ []) ⌝ }
+    ensures { λ w. ⌜ MeetsTwo (accepted (verdictBytes (verdict (rowsIn specs (now (rows .entry)))))) (now (out .entry)) (now (fixes .entry)) (now (out .exit)) (now (fixes .exit)) (w .refusal) (w .record) (w .conflicts) (w .length) (w .«fixes_length») (w .buffer) ⌝ }
+{
+    if out.len() < rows.len() {
+        return measured(rows, specs, out, fixes);
     }
+    if fixes.len() < rows.len() {
+        return measured(rows, specs, out, fixes);
+    }
+    written(rows, specs, out, fixes)
 }
 
 // Rows that were read, so many: conflicts are looked for before a row goes out. The fix buffer is left alone where there are any.

@@ -1,37 +1,11 @@
--- The first buffer is asked before that for fixes, and both before one is written. Assumes nothing.
-use Rattle.validate.proofs.Entry.{kept-short, fixes-short, passes-told}
+-- Neither the kept rows nor the fixes are longer than the row list. Assumes nothing.
+use Rattle.validate.proofs.Walks.{kept-within, fixes-within}
 use borrow.Author.Needs.{needs}
 use Rattle.validate.proofs.passed.Statement.{statement}
 use Rattle.validate.proofs.passed.Tie as tie
-use Rattle.validate.proofs.kept.fixes_size.Reads as fixes-size-reads
-use Rattle.validate.proofs.kept.kept_size.Reads as kept-size-reads
-use Rattle.validate.proofs.kept.put_fixes.Reads as put-fixes-reads
-use Rattle.validate.proofs.kept.put_kept.Reads as put-kept-reads
-use Rattle.validate.proofs.short.Reads as short-reads
 
-kept-size-requires : tie.Need-kept-size-requires
-kept-size-requires c κs = search needs
-
-fixes-size-requires : tie.Need-fixes-size-requires
-fixes-size-requires c κs = search needs
-
-short-requires : tie.Need-short-requires
-short-requires c κs = search needs
-
-returns : tie.Need-returns
-returns c = search kept-short
-
-short-requires-2 : tie.Need-short-requires-2
-short-requires-2 c κs = search needs
-
-returns-2 : tie.Need-returns-2
-returns-2 c = search fixes-short
-
-put-kept-requires : tie.Need-put-kept-requires
-put-kept-requires c κs = search needs
-
-put-fixes-requires : tie.Need-put-fixes-requires
-put-fixes-requires c κs = search needs
+measured-requires : tie.Need-measured-requires
+measured-requires c κs = search needs
 
 same-length : tie.Need-same-length
 same-length c = search needs
@@ -39,21 +13,46 @@ same-length c = search needs
 same-length-2 : tie.Need-same-length-2
 same-length-2 c = search needs
 
+returns : tie.Need-returns
+returns c = search needs
+
+measured-requires-2 : tie.Need-measured-requires-2
+measured-requires-2 c κs = search needs
+
+same-length-3 : tie.Need-same-length-3
+same-length-3 c = search needs
+
+same-length-4 : tie.Need-same-length-4
+same-length-4 c = search needs
+
+returns-2 : tie.Need-returns-2
+returns-2 c = search needs
+
+written-requires : tie.Need-written-requires
+written-requires c κs = (search needs, search needs, search kept-within, search fixes-within)
+
+same-length-5 : tie.Need-same-length-5
+same-length-5 c = search needs
+
+same-length-6 : tie.Need-same-length-6
+same-length-6 c = search needs
+
 returns-3 : tie.Need-returns-3
-returns-3 c = search passes-told
+returns-3 c = search needs
 
 pub passed-spec : {M : Type 1} → statement M
 passed-spec =
     tie.close
     (tie.spec
-    kept-size-requires
-    fixes-size-requires
-    short-requires
-    returns
-    short-requires-2
-    returns-2
-    put-kept-requires
-    put-fixes-requires
+    measured-requires
     same-length
     same-length-2
+    returns
+    measured-requires-2
+    same-length-3
+    same-length-4
+    returns-2
+    written-requires
+    same-length-5
+    same-length-6
     returns-3)
