@@ -1,0 +1,2 @@
+-- `Best`: the index that holds the first of the places offered to it.
+pub mod Best

@@ -1,0 +1,2 @@
+-- `Best`: an index that holds the first of the places that it was offered.
+pub mod Best
