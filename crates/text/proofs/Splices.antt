@@ -5,8 +5,8 @@ use Prim.Native.Nat.{ℕ, _+_, _-_, _≤_, _<_}
 use native.Mathlib.Omega.{arith}
 use native.Mathlib.Nat.{add-assoc, add-zero, zero-add}
 use native.Mathlib.Numerals.{add-one}
-use lib.ListN.{length, set, take, drop, length-append, length-drop, take-append-drop}
-use lib.Seq.{length-take-le, take-at, drop-append-add, drop-drop, set-split, paste, take-length, take-add}
+use lib.ListN.{length, set, take, drop, getD, length-append, length-drop, take-append-drop, List·getD-append}
+use lib.Seq.{length-take-le, take-at, drop-append-add, drop-drop, set-split, paste, take-length, take-add, getD-append-add, getD-take, getD-drop}
 use Rattle.meaning.specs.Bytes.{Text}
 use Rattle.text.specs.Splice.{splice}
 
@@ -89,3 +89,28 @@ splice-rest d s at i j h m n =
     ∙ splice-over w (at + j) (take n' (drop j s)) (drop j s) (rw (lw, ld) (omega arith)) (rw (lt, ld) (omega arith))
     ∙ splice-next d at (take j s) (drop j s) (at + j) b (rw l)
     ∙ ap (splice d at) (take-append-drop j s)
+
+-- what stands where s was written
+pub splice-there : (d : Text) (at : ℕ) (s : Text) (i : ℕ) → at + length s ≤ length d → i < length s → getD (splice d at s) (at + i) 0 ≡ getD s i 0
+unfolding splice
+splice-there d at s i h l =
+    let z : length (take at d) ≡ at = length-take-le at d (omega arith) in
+    ap (λ (n : ℕ). getD (take at d ++ (s ++ drop (at + length s) d)) (n + i) 0) (sym z)
+    ∙ getD-append-add (take at d) (s ++ drop (at + length s) d) i 0
+    ∙ List·getD-append s (drop (at + length s) d) 0 i l
+
+-- what stands before it
+pub splice-before : (d : Text) (at : ℕ) (s : Text) (i : ℕ) → at + length s ≤ length d → i < at → getD (splice d at s) i 0 ≡ getD d i 0
+unfolding splice
+splice-before d at s i h l =
+    let z : length (take at d) ≡ at = length-take-le at d (omega arith) in
+    List·getD-append (take at d) (s ++ drop (at + length s) d) 0 i (omega arith) ∙ getD-take at d i 0 l
+
+-- what stands after it
+pub splice-after : (d : Text) (at : ℕ) (s : Text) (i : ℕ) → at + length s ≤ length d → at + length s ≤ i → getD (splice d at s) i 0 ≡ getD d i 0
+unfolding splice
+splice-after d at s i h l =
+    let z : length (take at d ++ s) ≡ at + length s = simp (length-append, length-take-le at d (omega arith)) in
+    let e : length (take at d ++ s) + (i - (at + length s)) ≡ i = omega arith in
+    rw (← append-assoc (take at d) s (drop (at + length s) d), ← e, getD-append-add (take at d ++ s) (drop (at + length s) d) (i - (at + length s)) 0, getD-drop)
+    (ap (λ (n : ℕ). getD d n 0) (omega arith))

@@ -11,7 +11,7 @@ use mir.Val.{Fits}
 use lib.ListN.{length, getD, drop, length-drop}
 use lib.Seq.{drop-nil, drop-drop, getD-drop}
 use Rattle.meaning.specs.Bytes.{Text, _and_, begins}
-use Rattle.promises.proofs.Laws.{and-right}
+use Rattle.promises.proofs.Laws.{and-left, and-right}
 use Rattle.text.specs.Word.{number}
 use Rattle.text.proofs.Rests.{rest-cons}
 
@@ -97,6 +97,17 @@ begins-later (suc j) (a ∷ p) (x ∷ s) h = begins-later j p s (and-right (eqb 
 begins-nothing : (p s : Text) → length p ≤ 0 → begins p s ≡ true
 begins-nothing [] s h = refl
 begins-nothing (a ∷ p) s h = absurd (omega arith)
+
+-- where a text begins with another, k bytes of both that stand in the other are one number
+pub begins-number : (j k q : ℕ) (p s : Text) → j + k ≤ length p → begins p s ≡ true → number q k (drop j p) ≡ number q k (drop j s)
+begins-number zero zero q p s l h = refl
+begins-number zero (suc k) q [] s l h = absurd (omega arith)
+begins-number zero (suc k) q (a ∷ p) [] l h = absurd (false≢true h)
+begins-number zero (suc k) q (a ∷ p) (x ∷ s) l h =
+    rw (eqb-true a x (and-left (eqb a x) (begins p s) h)) (begins-number zero k (q * 256 + x) p s (omega arith) (and-right (eqb a x) (begins p s) h))
+begins-number (suc j) k q [] s l h = absurd (omega arith)
+begins-number (suc j) k q (a ∷ p) [] l h = absurd (false≢true h)
+begins-number (suc j) k q (a ∷ p) (x ∷ s) l h = begins-number j k q p s (omega arith) (and-right (eqb a x) (begins p s) h)
 
 -- the next k bytes of both as numbers decide with what follows them
 pub block-decides : (p s : Text) → Bytes p → Bytes s → (k i x y : ℕ) → i + k ≤ length s → i + k ≤ length p → x ≡ number 0 k (drop i s) → y ≡ number 0 k (drop i p)

@@ -25,7 +25,7 @@ pub(crate) fn half(s: &[u8], i: usize) -> u64
 }
 
 // The number that eight bytes make.
-pub(crate) fn word(s: &[u8], i: usize) -> u64
+pub fn word(s: &[u8], i: usize) -> u64
     requires { ⌜ i + 8 ≤ length (now s) ⌝ }
     ensures { λ r. ⌜ r ≡ number 0 8 (drop i (now (s .entry))) ⌝ }
 {
