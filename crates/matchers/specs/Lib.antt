@@ -1,0 +1,2 @@
+-- `Numbers`: a matcher as ten numbers of a table.
+pub mod Numbers
