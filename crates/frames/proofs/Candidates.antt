@@ -19,7 +19,7 @@ use Rattle.number.proofs.Texts.{text-size}
 use Rattle.frames.specs.Frames.{Framing, candidate, frameAt}
 
 -- what holds of each of the six numbers
-six : (P : ℕ → Type 0) → P 0 → P 1 → P 2 → P 3 → P 4 → P 5 → (k : ℕ) → k < 6 → P k
+pub six : (P : ℕ → Type 0) → P 0 → P 1 → P 2 → P 3 → P 4 → P 5 → (k : ℕ) → k < 6 → P k
 six P a b c d e f zero h = a
 six P a b c d e f (suc zero) h = b
 six P a b c d e f (suc (suc zero)) h = c
@@ -47,7 +47,7 @@ trailing-short : (k : ℕ) → k < 6 → length (frameAt k .trailing) ≤ 5
 trailing-short = six (λ (k : ℕ). length (frameAt k .trailing) ≤ 5) (lit≤ tt) (lit≤ tt) (lit≤ tt) (lit≤ tt) (lit≤ tt) (lit≤ tt)
 
 -- a candidate has the bytes of its three parts
-candidate-length : (t : Text) (k : ℕ) → k < 6 → length (candidate k t) ≡ length (frameAt k .leading) + length t + length (frameAt k .trailing)
+pub candidate-length : (t : Text) (k : ℕ) → k < 6 → length (candidate k t) ≡ length (frameAt k .leading) + length t + length (frameAt k .trailing)
 candidate-length t k h = rw (candidate-framed t k h, length-append (frameAt k .leading) (t ++ frameAt k .trailing), length-append t (frameAt k .trailing)) (omega arith)
 
 -- eighteen more than the name at most

@@ -1,7 +1,9 @@
 -- A candidate of a partial name by its number, and what an entry of the table of frames holds.
-use Prim.Native.Nat.{ℕ}
+use Prim.Native.Nat.{ℕ, _+_}
 use mathlib.Core.Path.{_≡_}
+use mathlib.Core.Bool.{cond}
 use mathlib.Core.List.{[]}
+use lib.Dec.{eqb}
 use lib.ListN.{length, take, getD}
 use Rattle.meaning.specs.Bytes.{Text, bytes}
 use Rattle.meaning.specs.Prefix.{Frame, frame, frames, candidates}
@@ -20,3 +22,11 @@ pub record Framing (f : Frame) (leading : Text) (size trailing : ℕ) : Type 0 w
   pub leadsBy : size ≡ length (f .leading)
   pub trails : take trailing (bytes "/HEAD") ≡ f .trailing
   pub trailsBy : trailing ≡ length (f .trailing)
+
+-- how many bytes frame number k adds to a name
+abbrev pub adds : ℕ → ℕ
+adds k = length (frameAt k .leading) + length (frameAt k .trailing)
+
+-- the number of the one frame that adds d bytes; 6 where none does
+unfoldable pub frameAdding : ℕ → ℕ
+frameAdding d = cond (eqb d 0) 0 (cond (eqb d 5) 1 (cond (eqb d 10) 2 (cond (eqb d 11) 3 (cond (eqb d 13) 4 (cond (eqb d 18) 5 6)))))

@@ -2,13 +2,13 @@
 ghost use mathlib.Core.Path.{_≡_};
 ghost use Prim.Native.Nat.{_+_, _<_, _≤_};
 ghost use lib.Dec.{eqb};
-ghost use lib.ListN.{length};
-ghost use Rattle.meaning.specs.Bytes.{any, same};
+ghost use lib.ListN.{length, drop};
+ghost use Rattle.meaning.specs.Bytes.{_and_, any, same, begins};
 ghost use Rattle.meaning.specs.Limits.{listBytes};
 ghost use Rattle.meaning.specs.Number.{textBytes, recordBytes};
 ghost use Rattle.meaning.specs.Prefix.{candidates};
 ghost use Rattle.text.specs.Splice.{splice};
-ghost use Rattle.frames.specs.Frames.{Framing, frameAt, candidate};
+ghost use Rattle.frames.specs.Frames.{Framing, frameAt, candidate, adds, frameAdding};
 
 // A frame: its leading text, how many of these bytes count, and how many bytes of `/HEAD` trail.
 struct Frame([u8; 13], usize, usize);
@@ -118,10 +118,10 @@ fn has_size(size: usize, frame: usize, name: usize) -> bool
     size - frame == name
 }
 
-// A name is candidate number k of a partial name t, piece by piece.
-fn has_pieces(k: usize, t: &[u8], name: &[u8]) -> bool
-    requires { ⌜ k < 6 ⌝ }
-    ensures { λ r. ⌜ r ≡ same (now (name .entry)) (candidate k (now (t .entry))) ⌝ }
+// What stands before and after the m bytes of a partial name in a name is frame number k.
+fn has_frame(k: usize, m: usize, name: &[u8]) -> bool
+    requires { ⌜ (k < 6) × (length (now name) ≡ m + adds k) ⌝ }
+    ensures { λ r. ⌜ r ≡ (begins (frameAt k .leading) (now (name .entry)) and same (drop m (drop (length (frameAt k .leading)) (now (name .entry)))) (frameAt k .trailing)) ⌝ }
 {
     let f = frame_of(k);
     let leading = f.0;
@@ -130,12 +130,20 @@ fn has_pieces(k: usize, t: &[u8], name: &[u8]) -> bool
         return false;
     }
     let rest = &name[n..];
-    if !text::begins(rest, t) {
+    let trailing = HEAD;
+    let u = f.2;
+    text::same(&rest[m..], &trailing[..u])
+}
+
+// A name of its size is candidate number k of a partial name t, whose place in it is n. Most differ in the partial name.
+fn has_pieces(k: usize, n: usize, t: &[u8], name: &[u8]) -> bool
+    requires { ⌜ (k < 6) × (n ≡ length (frameAt k .leading)) × (length (now name) ≡ length (now t) + adds k) ⌝ }
+    ensures { λ r. ⌜ r ≡ same (now (name .entry)) (candidate k (now (t .entry))) ⌝ }
+{
+    if !text::begins(&name[n..], t) {
         return false;
     }
-    let trailing = HEAD;
-    let m = f.2;
-    text::same(&rest[t.len()..], &trailing[..m])
+    has_frame(k, t.len(), name)
 }
 
 // A name is candidate number k of a partial name t. Most names differ in size.
@@ -147,19 +155,48 @@ pub fn is_candidate(k: usize, t: &[u8], name: &[u8]) -> bool
     if !has_size(name.len(), f.1 + f.2, t.len()) {
         return false;
     }
-    has_pieces(k, t, name)
+    has_pieces(k, f.1, t, name)
 }
 
-// A name is a candidate of a partial name t.
+// The number of the one frame that adds d bytes; 6 where none does.
+fn frame_adding(d: usize) -> usize
+    ensures { λ r. ⌜ r ≡ frameAdding d ⌝ }
+{
+    match d {
+        0 => 0,
+        5 => 1,
+        10 => 2,
+        11 => 3,
+        13 => 4,
+        18 => 5,
+        _ => 6,
+    }
+}
+
+// How many bytes lead in frame number k.
+fn leading_size(k: usize) -> usize
+    requires { ⌜ k < 6 ⌝ }
+    ensures { λ r. ⌜ r ≡ length (frameAt k .leading) ⌝ }
+{
+    match k {
+        0 => 0,
+        1 => 5,
+        2 => 10,
+        3 => 11,
+        _ => 13,
+    }
+}
+
+// A name is a candidate of a partial name t. Its size tells the one that it may be.
 pub fn any_candidate(t: &[u8], name: &[u8]) -> bool
     ensures { λ r. ⌜ r ≡ any (same (now (name .entry))) (candidates (now (t .entry))) ⌝ }
 {
-    let mut k = 0;
-    while k < FRAMES {
-        if is_candidate(k, t, name) {
-            return true;
-        }
-        k += 1;
+    if name.len() < t.len() {
+        return false;
     }
-    false
+    let k = frame_adding(name.len() - t.len());
+    if k == FRAMES {
+        return false;
+    }
+    has_pieces(k, leading_size(k), t, name)
 }

@@ -1,48 +1,38 @@
--- `frames::any_candidate` meets its contract: the candidates that are left decide as all do.
-use Prim.Native.Nat.{_-_}
-use native.Mathlib.Omega.{arith}
-use Rattle.frames.proofs.Seeking.{Seeking, seeking-starts, seeking-here, seeking-more, seeking-none}
+-- `frames::any_candidate` meets its contract: a candidate of another size is not the name, and no two have one size.
+use Rattle.frames.proofs.Seeking.{too-short, no-frame, frame-small, frame-size, one-told}
 use borrow.Author.Needs.{needs}
 use Rattle.frames.proofs.any_candidate.Statement.{statement}
 use Rattle.frames.proofs.any_candidate.Tie as tie
 
-abbrev Inv-loop : tie.InvT-loop
-Inv-loop t name k₀ k = Seeking t name k
+returns : tie.Need-returns
+returns c = search too-short
 
-abbrev μ-loop : tie.MeasureT-loop
-μ-loop t name k₀ k = 6 - k
+sub-frame-adding : tie.Need-sub-frame-adding
+sub-frame-adding c = search needs
 
-loop-holds : tie.Need-loop-holds Inv-loop μ-loop
-loop-holds c = search seeking-starts
+frame-adding-requires : tie.Need-frame-adding-requires
+frame-adding-requires c κs = search needs
 
-is-candidate-requires : tie.Need-is-candidate-requires Inv-loop μ-loop
-is-candidate-requires c κs = search needs
+returns-2 : tie.Need-returns-2
+returns-2 c = search no-frame
 
-returns : tie.Need-returns Inv-loop μ-loop
-returns c = search seeking-here
+leading-size-requires : tie.Need-leading-size-requires
+leading-size-requires c κs = search frame-small
 
-add-k : tie.Need-add-k Inv-loop μ-loop
-add-k c = search needs
+has-pieces-requires : tie.Need-has-pieces-requires
+has-pieces-requires c κs = (search frame-small, search needs, search frame-size)
 
-loop-less : tie.Need-loop-less Inv-loop μ-loop
-loop-less c = omega arith
-
-loop-again : tie.Need-loop-again Inv-loop μ-loop
-loop-again c = search seeking-more
-
-returns-2 : tie.Need-returns-2 Inv-loop μ-loop
-returns-2 c = search seeking-none
+returns-3 : tie.Need-returns-3
+returns-3 c = search one-told
 
 pub any-candidate-spec : {M : Type 1} → statement M
 any-candidate-spec =
     tie.close
     (tie.spec
-    Inv-loop
-    μ-loop
-    loop-holds
-    is-candidate-requires
     returns
-    add-k
-    loop-less
-    loop-again
-    returns-2)
+    sub-frame-adding
+    frame-adding-requires
+    returns-2
+    leading-size-requires
+    has-pieces-requires
+    returns-3)

@@ -1,5 +1,5 @@
 -- `frames::is_candidate` meets its contract: a name of another size is no candidate, and any other is taken apart.
-use Rattle.frames.proofs.Seeking.{frame-fits, size-not}
+use Rattle.frames.proofs.Seeking.{frame-fits, size-not, size-is}
 use borrow.Author.Needs.{needs}
 use Rattle.frames.proofs.is_candidate.Statement.{statement}
 use Rattle.frames.proofs.is_candidate.Tie as tie
@@ -17,7 +17,7 @@ returns : tie.Need-returns
 returns c = search size-not
 
 has-pieces-requires : tie.Need-has-pieces-requires
-has-pieces-requires c κs = search needs
+has-pieces-requires c κs = (search needs, search needs, search size-is)
 
 returns-2 : tie.Need-returns-2
 returns-2 c = search needs
