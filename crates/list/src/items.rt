@@ -13,7 +13,7 @@ use super::cursor::Cursor;
 use super::cursor::Step;
 
 // Document 01's limits on an item list: its bytes, its records, and the bytes of a name.
-const LIST_BYTES: usize = 65535;
+pub(crate) const LIST_BYTES: usize = 65535;
 
 const ITEMS: usize = 1024;
 
@@ -38,7 +38,7 @@ fn named(start: usize, len: usize, next: Cursor) -> Step
 }
 
 // The item that stands at a cursor with `count` items behind it: questions 14, 13 and 15.
-fn item_at(list: &[u8], c: Cursor, count: usize) -> Step
+pub(crate) fn item_at(list: &[u8], c: Cursor, count: usize) -> Step
     ensures { λ r. ⌜ r ≡ itemAt count (now (list .entry)) (c .at) ⌝ }
 {
     let at = c.at;
