@@ -1,5 +1,6 @@
 -- A `match` on a negative, on its number, and on what a pattern caught. Assumes nothing.
 use Prim.Native.Nat.{ℕ, zero, suc, _+_, _-_, _≤_, _<_}
+use native.Mathlib.Omega.{arith}
 use mathlib.Core.Path.{_≡_, refl, sym, ap, _∙_}
 use mathlib.Core.Bool.{Bool, true, false}
 use mathlib.Core.List.{List}
@@ -85,11 +86,18 @@ pub matches-glob : (s name : Text) (n : Negative) (at len star : ℕ) (r : Bool)
 matches-glob s name n at len star r e h = rw e h
 
 -- a literal within so many bytes
-pub literal-within : (n : Negative) (at len : ℕ) → n ≡ Literal at len → (m : ℕ) → NegativeWithin m n → at + len ≤ m
-literal-within n at len e m w = rw e at w
+module _ (n : Negative) (at len : ℕ) (e : n ≡ Literal at len) (m : ℕ) (w : NegativeWithin m n) where
+  pub literal-within : at + len ≤ m
+  literal-within = rw e at w
 
+  pub literal-start : at ≤ m
+  literal-start = omega (arith, literal-within)
+
+  pub literal-size : len ≤ m
+  literal-size = omega (arith, literal-within)
+
+-- a pattern within so many bytes
 module _ (n : Negative) (at len star : ℕ) (e : n ≡ Glob at len star) (m : ℕ) (w : NegativeWithin m n) where
-  -- a pattern within so many bytes
   pub glob-within : at + len ≤ m
   glob-within = let u : NegativeWithin m (Glob at len star) = rw e at w in u .0
 
@@ -97,9 +105,30 @@ module _ (n : Negative) (at len star : ℕ) (e : n ≡ Glob at len star) (m : �
   pub star-within : star < len
   star-within = let u : NegativeWithin m (Glob at len star) = rw e at w in u .1
 
+  pub glob-start : at ≤ m
+  glob-start = omega (arith, glob-within)
+
+  pub glob-size : len ≤ m
+  glob-size = omega (arith, glob-within)
+
+  pub glob-star : star ≤ m
+  glob-star = omega (arith, glob-within, star-within)
+
+-- what stands within so many bytes stands within more
+pub within-more : (n : Negative) (m l : ℕ) → m ≤ l → NegativeWithin m n → NegativeWithin l n
+within-more Nothing m l h w = tt
+within-more Head m l h w = tt
+within-more (Literal at len) m l h w = omega arith
+within-more (Glob at len star) m l h w = (omega (arith, w .0), w .1)
+
 -- the text of a literal is the slice
 pub part-same : (s name : Text) (at len : ℕ) (r : Bool) → r ≡ same (take (at + len - at) (drop at s)) name → r ≡ same (partAt s at len) name
 part-same s name at len r h = rw part-of at h
+
+-- and the text of a pattern
+pub part-glob : (s name : Text) (at len star : ℕ) (r : Bool) → r ≡ present (capture (take star (take (at + len - at) (drop at s))) (drop (suc star) (take (at + len - at) (drop at s))) name)
+    → r ≡ present (inPlaceOfStar (partAt s at len) star name)
+part-glob s name at len star r h = rw part-of at h
 
 -- what a pattern caught
 module _ (s name : Text) (at len star : ℕ) (c : Captured)

@@ -11,7 +11,7 @@ use borrow.Author.Tests.{not-true, not-false}
 use lib.ListN.{length, take, getD}
 use lib.Seq.{take-suc}
 use Rattle.meaning.specs.Bytes.{Text, _or_, any}
-use Rattle.meaning.specs.Spec.{isNegative}
+use Rattle.meaning.specs.Spec.{Spec, isNegative}
 use Rattle.meaning.specs.Listing.{excludes}
 use Rattle.parse.specs.declared.types.RefSpec.{RefSpec}
 use Rattle.parse.specs.Places.{modeMeant, SidesWithin, specMeant}
@@ -19,6 +19,7 @@ use Rattle.exclude.specs.declared.Negative.{Negative}
 use Rattle.exclude.specs.Negatives.{NegativeWithin, negativeAt, excludedBy, Negatives}
 use Rattle.exclude.specs.Making.{negativeOf, Put, Added}
 use Rattle.exclude.proofs.Forms.{negative-within, negative-excludes, positive-excludes}
+use Rattle.exclude.proofs.Arms.{within-more}
 use Rattle.exclude.proofs.Tables.{excluded-kept}
 
 or-false : (b : Bool) → (b or false) ≡ b
@@ -26,6 +27,10 @@ or-false true = refl
 or-false false = refl
 
 -- ---- one spec
+
+-- what a spec of a list looks for stands within as many bytes as the list at most has
+pub negative-small : (s : Text) (r : RefSpec) (n : Negative) → n ≡ negativeOf s r → SidesWithin (length s) r → (l : ℕ) → length s ≤ l → NegativeWithin l n
+negative-small s r n e w l h = rw e (within-more (negativeOf s r) (length s) l h (negative-within s r w))
 
 module _ (s : Text) (r : RefSpec) (t : List ℕ) (k : ℕ) (b : Bool) (is : b ≡ isNegative (modeMeant (r .mode))) where
   -- one that is not negative adds nothing
@@ -65,56 +70,63 @@ any-append test (y ∷ l) x = go (test y) (any-append test l x)
     go true e = refl
     go false e = e
 
--- the negatives of the first i records of a table stand in `out`
-pub record Filling (s : Text) (table : List RefSpec) (n : ℕ) (start out : List ℕ) (count i : ℕ) : Type 0 where
-  pub rows : n ≤ length table
-  pub place : i ≤ n
+-- no spec, no negative
+pub negatives-none : (s : Text) (t : List ℕ) → Negatives s [] t 0
+negatives-none s t = record { room = omega arith; within = λ k l. absurd (omega arith); decides = λ name. refl; few = omega arith }
+
+-- a spec that is added joins the group
+module _ (s : Text) (t : List ℕ) (k : ℕ) (u : List ℕ) (count : ℕ) (room : 1024 ≤ length t) (few : k < 256) where
+  pub negatives-more : (group : List Spec) (spec : Spec) → Negatives s group t k → Added s spec t k u count → Negatives s (group ++ (spec ∷ [])) u count
+  negatives-more group spec n a = record {
+    room = omega (arith, a .size, a .one);
+    within = a .within (n .within);
+    decides = λ name. a .decides name ∙ ap (λ (b : Bool). b or excludes name spec) (n .decides name) ∙ sym (any-append (excludes name) group spec);
+    few = omega (arith, a .one);
+  }
+
+  -- record number i of a table joins those before it
+  pub negatives-next : (table : List RefSpec) (i : ℕ) → i < length table → (d : RefSpec)
+      → Negatives s (map (specMeant s) (take i table)) t k → Added s (specMeant s (getD table i d)) t k u count → Negatives s (map (specMeant s) (take (i + 1) table)) u count
+  negatives-next table i h d n a =
+      rw (add-one i, take-suc table i d h, map-append (specMeant s) (take i table) (getD table i d ∷ []))
+      (negatives-more (map (specMeant s) (take i table)) (specMeant s (getD table i d)) n a)
+
+-- the same for a loop: the negatives of i specs stand in `out`, which `start` was at first
+pub record Filling (s : Text) (group : List Spec) (start out : List ℕ) (count i : ℕ) : Type 0 where
   pub fewer : count ≤ i
   pub size : length out ≡ length start
-  pub within : (k : ℕ) → k < count → NegativeWithin (length s) (negativeAt out k)
-  pub decides : (name : Text) → excludedBy s out count name ≡ any (excludes name) (map (specMeant s) (take i table))
+  pub holds : Negatives s group out count
 
--- none at the start
-pub filling-starts : (s : Text) (table : List RefSpec) (n : ℕ) (out : List ℕ) → n ≤ 256 → length table ≡ 256 → Filling s table n out out 0 0
-filling-starts s table n out h e = record { rows = omega arith; place = omega arith; fewer = omega arith; size = refl; within = λ k l. absurd (omega arith); decides = λ name. refl }
+pub filling-starts : (s : Text) (out : List ℕ) → Filling s [] out out 0 0
+filling-starts s out = record { fewer = omega arith; size = refl; holds = negatives-none s out }
 
--- one spec more is one more to ask
-group-more : (s name : Text) (table : List RefSpec) (i : ℕ) (d : RefSpec) → i < length table
-    → any (excludes name) (map (specMeant s) (take (i + 1) table)) ≡ (any (excludes name) (map (specMeant s) (take i table)) or excludes name (specMeant s (getD table i d)))
-group-more s name table i d h =
-    rw (add-one i, take-suc table i d h, map-append (specMeant s) (take i table) (getD table i d ∷ [])) (any-append (excludes name) (map (specMeant s) (take i table)) (specMeant s (getD table i d)))
+module _ (s : Text) (group : List Spec) (start out : List ℕ) (count i : ℕ) (f : Filling s group start out count i) (n : ℕ) (l : i < n) (h : n ≤ 256) where
+  -- there is room for another
+  pub filling-few : count < 256
+  filling-few = omega (arith, f .fewer)
 
-module _ (s : Text) (table : List RefSpec) (n : ℕ) (start out : List ℕ) (count i : ℕ) (f : Filling s table n start out count i) where
-  -- the table has room for another
-  pub filling-room : 1024 ≤ length start → 1024 ≤ length out
-  filling-room h = omega (arith, f .size)
+  module _ (long : 1024 ≤ length start) where
+    pub filling-room : 1024 ≤ length out
+    filling-room = omega (arith, f .size)
 
-  -- and fewer than 256
-  pub filling-few : i < n → n ≤ 256 → count < 256
-  filling-few l h = omega (arith, f .fewer)
+    -- one more spec
+    pub filling-more : (spec : Spec) (out₁ : List ℕ) (count₁ : ℕ) → Added s spec out count out₁ count₁ → Filling s (group ++ (spec ∷ [])) start out₁ count₁ (i + 1)
+    filling-more spec out₁ count₁ a = record {
+      fewer = omega (arith, f .fewer, a .one);
+      size = a .size ∙ f .size;
+      holds = negatives-more s out count out₁ count₁ filling-room filling-few group spec (f .holds) a;
+    }
 
-  -- the next record stands within the list
-  pub filling-next : ((j : ℕ) → j < n → (d : RefSpec) → SidesWithin (length s) (getD table j d)) → i < n → (d : RefSpec) → SidesWithin (length s) (getD table i d)
-  filling-next w l d = w i l d
-
-  -- one more record
-  pub filling-more : i < n → (d : RefSpec) (out₁ : List ℕ) (count₁ : ℕ) → Added s (specMeant s (getD table i d)) out count out₁ count₁ → Filling s table n start out₁ count₁ (i + 1)
-  filling-more l d out₁ count₁ a = record {
-    rows = f .rows;
-    place = omega arith;
+-- and for one over a table of records
+module _ (s : Text) (table : List RefSpec) (start out : List ℕ) (count i : ℕ) (f : Filling s (map (specMeant s) (take i table)) start out count i) (n : ℕ) where
+  pub filling-next : length table ≡ 256 → i < n → n ≤ 256 → 1024 ≤ length start → (d : RefSpec) (out₁ : List ℕ) (count₁ : ℕ) → Added s (specMeant s (getD table i d)) out count out₁ count₁
+      → Filling s (map (specMeant s) (take (i + 1) table)) start out₁ count₁ (i + 1)
+  filling-next e l h long d out₁ count₁ a = record {
     fewer = omega (arith, f .fewer, a .one);
     size = a .size ∙ f .size;
-    within = a .within (f .within);
-    decides = λ name. a .decides name ∙ ap (λ (b : Bool). b or excludes name (specMeant s (getD table i d))) (f .decides name) ∙ sym (group-more s name table i d (omega (arith, f .rows)));
+    holds = negatives-next s out count out₁ count₁ (omega (arith, f .size)) (omega (arith, f .fewer)) table i (omega arith) d (f .holds) a;
   }
 
   -- after the last, they are those of the group
-  pub filling-whole : n ≤ i → n ≤ 256 → 1024 ≤ length start → Negatives s (map (specMeant s) (take n table)) out count
-  filling-whole l h m =
-      let e : i ≡ n = omega (arith, f .place) in
-      record {
-        room = omega (arith, f .size, f .fewer);
-        within = f .within;
-        decides = rw e at (f .decides);
-        few = omega (arith, f .fewer);
-      }
+  pub filling-whole : i ≤ n → n ≤ i → Negatives s (map (specMeant s) (take n table)) out count
+  filling-whole a b = let e : i ≡ n = omega arith in rw e at (f .holds)

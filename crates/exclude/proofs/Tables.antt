@@ -11,9 +11,10 @@ use Rattle.exclude.specs.Negatives.{negativeFrom, negativeAt, excludedBy
 use Rattle.exclude.specs.Making.{Put}
 
 -- the four numbers of number k tell the negative
-pub numbers-tell : (t : List ℕ) (k : ℕ) (n : Negative) → n ≡ negativeFrom (getD t (4 * k) 0) (getD t (4 * k + 1) 0) (getD t (4 * k + 2) 0) (getD t (4 * k + 3) 0) → n ≡ negativeAt t k
+pub numbers-tell : (t : List ℕ) (k kind at len star : ℕ) → kind ≡ getD t (4 * k) 0 → at ≡ getD t (4 * k + 1) 0 → len ≡ getD t (4 * k + 2) 0 → star ≡ getD t (4 * k + 3) 0
+    → (n : Negative) → n ≡ negativeFrom kind at len star → n ≡ negativeAt t k
 unfolding negativeAt
-numbers-tell t k n e = e
+numbers-tell t k kind at len star ek ea el es n e = e ∙ rw (ek, ea, el, es)
 
 -- four numbers stored as those of number k
 module _ (t : List ℕ) (k kind at len star : ℕ) where

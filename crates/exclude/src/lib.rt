@@ -1,18 +1,23 @@
 // The negative specs of a group as flat numbers, and whether one of them matches a name. Port of the negatives in the crate's match_group/mod.rs.
 ghost use mathlib.Core.Path.{_≡_};
-ghost use mathlib.Core.List.{map};
+ghost use mathlib.Core.List.{_++_};
 ghost use Prim.Native.Nat.{ℕ, _+_, _*_, _<_, _≤_};
-ghost use lib.ListN.{length, take, getD};
+ghost use lib.ListN.{length};
 ghost use Rattle.meaning.specs.Bytes.{same, present};
-ghost use Rattle.parse.specs.declared.types.RefSpec.{RefSpec as Places};
+ghost use Rattle.meaning.specs.Limits.{listBytes};
 ghost use Rattle.parse.specs.Places.{partAt, Within, SidesWithin, specMeant};
-ghost use Rattle.exclude.specs.Negatives.{inPlaceOfStar, negativeMatches, NegativeWithin, negativeFrom, negativeAt, excludedBy, Negatives};
+ghost use Rattle.exclude.specs.Negatives.{inPlaceOfStar, negativeMatches, NegativeWithin, negativeFrom, negativeAt, excludedBy};
 ghost use Rattle.exclude.specs.Making.{textNegative, sideNegative, isGlob, besides, negativeOf, Put, Added};
+
+mod pieces;
+
 use glob::Captured;
 use parse::types::RefSpec;
 use parse::types::Side;
 use parse::types::is_negative;
 use parse::types::is_present;
+use pieces::pieces_glob;
+use pieces::pieces_same;
 
 // What a negative spec looks for, as places in the spec list.
 pub enum Negative {
@@ -98,28 +103,21 @@ fn negative_of(specs: &[u8], r: RefSpec) -> Negative
 }
 
 // Four numbers are put into a table as those of number k; the number after it.
-fn put_numbers(
-    out: &mut [usize],
-    k: usize,
-    kind: usize,
-    at: usize,
-    len: usize,
-    star: usize,
-) -> usize
-    requires { ⌜ (k < 256) × (1024 ≤ length (now out)) ⌝ }
+fn put_numbers(out: &mut [u16], k: usize, kind: usize, at: usize, len: usize, star: usize) -> usize
+    requires { ⌜ (k < 256) × (1024 ≤ length (now out)) × (kind ≤ 3) × (at ≤ listBytes) × (len ≤ listBytes) × (star ≤ listBytes) ⌝ }
     ensures { λ r. ⌜ (r ≡ k + 1) × Put (now (out .entry)) k (negativeFrom kind at len star) (now (out .exit)) ⌝ }
 {
     let i = 4 * k;
-    out[i] = kind;
-    out[i + 1] = at;
-    out[i + 2] = len;
-    out[i + 3] = star;
+    out[i] = kind as u16;
+    out[i + 1] = at as u16;
+    out[i + 2] = len as u16;
+    out[i + 3] = star as u16;
     k + 1
 }
 
 // A negative is put into a table as number k; the number after it.
-fn put_negative(out: &mut [usize], k: usize, n: Negative) -> usize
-    requires { ⌜ (k < 256) × (1024 ≤ length (now out)) ⌝ }
+fn put_negative(out: &mut [u16], k: usize, n: Negative) -> usize
+    requires { ⌜ (k < 256) × (1024 ≤ length (now out)) × NegativeWithin listBytes n ⌝ }
     ensures { λ r. ⌜ (r ≡ k + 1) × Put (now (out .entry)) k n (now (out .exit)) ⌝ }
 {
     match n {
@@ -131,8 +129,8 @@ fn put_negative(out: &mut [usize], k: usize, n: Negative) -> usize
 }
 
 // A spec is added to the first k negatives of a table, if it is one; how many they are then.
-fn put_if_negative(specs: &[u8], r: RefSpec, k: usize, out: &mut [usize]) -> usize
-    requires { ⌜ SidesWithin (length (now specs)) r × (k < 256) × (1024 ≤ length (now out)) ⌝ }
+pub fn put_if_negative(specs: &[u8], r: RefSpec, k: usize, out: &mut [u16]) -> usize
+    requires { ⌜ SidesWithin (length (now specs)) r × (length (now specs) ≤ listBytes) × (k < 256) × (1024 ≤ length (now out)) ⌝ }
     ensures { λ n. ⌜ Added (now (specs .entry)) (specMeant (now (specs .entry)) r) (now (out .entry)) k (now (out .exit)) n ⌝ }
 {
     let m = r.mode;
@@ -141,21 +139,6 @@ fn put_if_negative(specs: &[u8], r: RefSpec, k: usize, out: &mut [usize]) -> usi
     }
     let n = negative_of(specs, r);
     put_negative(out, k, n)
-}
-
-// The negatives of a group, the first n records of a table, put into a table of numbers; how many they are.
-pub fn put_negatives(specs: &[u8], table: [RefSpec; 256], n: usize, out: &mut [usize]) -> usize
-    requires { ⌜ (n ≤ 256) × (1024 ≤ length (now out)) × ((i : ℕ) → i < n → (d : Places) → SidesWithin (length (now specs)) (getD table i d)) ⌝ }
-    ensures { λ r. ⌜ Negatives (now (specs .entry)) (map (specMeant (now (specs .entry))) (take n table)) (now (out .exit)) r ⌝ }
-{
-    let mut count = 0;
-    let mut i = 0;
-    while i < n {
-        let r = table[i];
-        count = put_if_negative(specs, r, count, out);
-        i += 1;
-    }
-    count
 }
 
 // The negative that four numbers tell.
@@ -170,13 +153,25 @@ fn negative_from(kind: usize, at: usize, len: usize, star: usize) -> Negative
     }
 }
 
+// A number of a table.
+fn wide(n: u16) -> usize
+    ensures { λ r. ⌜ r ≡ n ⌝ }
+{
+    n as usize
+}
+
 // Negative number k of a table.
-fn negative_at(table: &[usize], k: usize) -> Negative
+fn negative_at(table: &[u16], k: usize) -> Negative
     requires { ⌜ 4 * k + 4 ≤ length (now table) ⌝ }
     ensures { λ r. ⌜ r ≡ negativeAt (now (table .entry)) k ⌝ }
 {
     let i = 4 * k;
-    negative_from(table[i], table[i + 1], table[i + 2], table[i + 3])
+    negative_from(
+        wide(table[i]),
+        wide(table[i + 1]),
+        wide(table[i + 2]),
+        wide(table[i + 3]),
+    )
 }
 
 // The text of `len` bytes that begin at `at` is the name.
@@ -214,7 +209,7 @@ fn matches(specs: &[u8], n: Negative, name: &[u8]) -> bool
 }
 
 // One of the first `count` negatives of a table matches a name.
-pub fn excluded(specs: &[u8], negatives: &[usize], count: usize, name: &[u8]) -> bool
+pub fn excluded(specs: &[u8], negatives: &[u16], count: usize, name: &[u8]) -> bool
     requires { ⌜ (4 * count ≤ length (now negatives)) × ((k : ℕ) → k < count → NegativeWithin (length (now specs)) (negativeAt (now negatives) k)) ⌝ }
     ensures { λ r. ⌜ r ≡ excludedBy (now (specs .entry)) (now (negatives .entry)) count (now (name .entry)) ⌝ }
 {
@@ -225,6 +220,68 @@ pub fn excluded(specs: &[u8], negatives: &[usize], count: usize, name: &[u8]) ->
             return true;
         }
         k += 1;
+    }
+    false
+}
+
+// The text of `len` bytes that begin at `at` is the name in three pieces.
+fn literal_matches_pieces(specs: &[u8], at: usize, len: usize, a: &[u8], b: &[u8], c: &[u8]) -> bool
+    requires { ⌜ at + len ≤ length (now specs) ⌝ }
+    ensures { λ r. ⌜ r ≡ same (partAt (now (specs .entry)) at len) (now (a .entry) ++ (now (b .entry) ++ now (c .entry))) ⌝ }
+{
+    let end = at + len;
+    pieces_same(&specs[at..end], a, b, c)
+}
+
+// The pattern of `len` bytes that begin at `at` matches it.
+fn glob_matches_pieces(
+    specs: &[u8],
+    at: usize,
+    len: usize,
+    star: usize,
+    a: &[u8],
+    b: &[u8],
+    c: &[u8],
+) -> bool
+    requires { ⌜ (at + len ≤ length (now specs)) × (star < len) ⌝ }
+    ensures { λ r. ⌜ r ≡ present (inPlaceOfStar (partAt (now (specs .entry)) at len) star (now (a .entry) ++ (now (b .entry) ++ now (c .entry)))) ⌝ }
+{
+    let end = at + len;
+    pieces_glob(&specs[at..end], star, a, b, c)
+}
+
+// A negative matches it.
+fn matches_pieces(specs: &[u8], n: Negative, a: &[u8], b: &[u8], c: &[u8]) -> bool
+    requires { ⌜ NegativeWithin (length (now specs)) n ⌝ }
+    ensures { λ r. ⌜ r ≡ negativeMatches (now (specs .entry)) (now (a .entry) ++ (now (b .entry) ++ now (c .entry))) n ⌝ }
+{
+    match n {
+        Negative::Nothing => false,
+        Negative::Head => pieces_same(b"HEAD", a, b, c),
+        Negative::Literal { at, len } => literal_matches_pieces(specs, at, len, a, b, c),
+        Negative::Glob { at, len, star } => glob_matches_pieces(specs, at, len, star, a, b, c),
+    }
+}
+
+// One of the first `count` negatives of a table matches it.
+pub fn excluded_pieces(
+    specs: &[u8],
+    negatives: &[u16],
+    count: usize,
+    a: &[u8],
+    b: &[u8],
+    c: &[u8],
+) -> bool
+    requires { ⌜ (4 * count ≤ length (now negatives)) × ((k : ℕ) → k < count → NegativeWithin (length (now specs)) (negativeAt (now negatives) k)) ⌝ }
+    ensures { λ r. ⌜ r ≡ excludedBy (now (specs .entry)) (now (negatives .entry)) count (now (a .entry) ++ (now (b .entry) ++ now (c .entry))) ⌝ }
+{
+    let mut i = 0;
+    while i < count {
+        let n = negative_at(negatives, i);
+        if matches_pieces(specs, n, a, b, c) {
+            return true;
+        }
+        i += 1;
     }
     false
 }

@@ -12,9 +12,8 @@ use Rattle.meaning.specs.Spec.{Spec, isNegative}
 use Rattle.meaning.specs.Rows.{Row, rowBytes, rowListOf}
 use Rattle.meaning.specs.Match.{formOf, objectSource, whole, Mapped, unmapped, mapped, mapsTo}
 use Rattle.meaning.specs.Listing.{Ends, nameRow, nameRows, groupRows, objectRow, objectRows, excludes, notExcluded, forwardRows, reverseRows}
-use Rattle.promises.proofs.Fitting.{Short, reverse-length}
-use Rattle.promises.proofs.Listings.{forward-made, reverse-made}
-use Rattle.match_group.specs.Listing.{eachFrom, endsIn, rowsIn, rowUnless, itemBytes, itemsFrom, specBytes, objectBytes, listingBytes}
+use Rattle.pair.specs.Pairs.{endsIn, rowUnless, itemBytes, objectBytes}
+use Rattle.match_group.specs.Listing.{eachFrom, rowsIn, itemsFrom, specBytes, listingBytes}
 
 module _ {A : Type 0} where
   keep-append : (test : A → Bool) (l m : List A) → keep test (l ++ m) ≡ keep test l ++ keep test m
@@ -25,7 +24,7 @@ module _ {A : Type 0} where
       go true = refl
       go false = refl
 
-  pub each-append : {B : Type 0} (f : A → List B) (l m : List A) → each (l ++ m) f ≡ each l f ++ each m f
+  each-append : {B : Type 0} (f : A → List B) (l m : List A) → each (l ++ m) f ≡ each l f ++ each m f
   each-append f [] m = refl
   each-append f (x ∷ l) m = rw (each-append f l m) (sym (append-assoc (f x) (each l f) (each m f)))
 
@@ -108,40 +107,3 @@ listing-bytes true gone group h names = group-kept true gone group h names
 listing-bytes false gone group h names =
     kept-append (notExcluded group) (each (numbered group) objectRows) (groupRows (endsIn false) group names)
     ∙ rw (objects-kept group, group-kept false gone group h names)
-
--- one item
-
-module _ (reverse : Bool) (gone : Text → Bool) (i : ℕ) (s : Spec) (j : ℕ) (name : Text) where
-  -- a name that is not matched has no row
-  pub item-nothing : endsIn reverse s name ≡ none → itemBytes reverse gone i j name s ≡ []
-  unfolding itemBytes
-  item-nothing e = rw e
-
-  -- nor has one whose source is gone
-  pub item-removed : (e : Ends) → endsIn reverse s name ≡ some e → gone (e .source) ≡ true → itemBytes reverse gone i j name s ≡ []
-  unfolding itemBytes
-  item-removed e p q = rw (p, q)
-
-  -- else its row stands
-  pub item-kept : (e : Ends) → endsIn reverse s name ≡ some e → gone (e .source) ≡ false → itemBytes reverse gone i j name s ≡ rowBytes (record { item = suc j; spec = i; kind = 0; source = e .source; destination = e .destination })
-  unfolding itemBytes
-  item-kept e p q = rw (p, q) (append-nil (rowBytes (record { item = suc j; spec = i; kind = 0; source = e .source; destination = e .destination })))
-
--- one spec
-
--- a negative spec has no rows
-pub spec-negative : (reverse : Bool) (gone : Text → Bool) (names : List Text) (i : ℕ) (s : Spec) → isNegative (s .mode) ≡ true → specBytes reverse gone names i s ≡ []
-unfolding specBytes
-spec-negative reverse gone names i s e = rw e
-
--- any other has those of its items
-pub spec-items : (reverse : Bool) (gone : Text → Bool) (names : List Text) (i : ℕ) (s : Spec) → isNegative (s .mode) ≡ false → specBytes reverse gone names i s ≡ itemsFrom (itemBytes reverse gone i) 0 names s
-unfolding specBytes
-spec-items reverse gone names i s e = rw e
-
--- what a row needs room for
-
--- the source of a row that a name makes is at most as long as an accepted spec's source and a name
-pub source-short : (back : Bool) (s : Spec) (name : Text) (e : Ends) → Short (s .source) → endsIn back s name ≡ some e → length name ≤ 4096 → length (e .source) ≤ 8192
-source-short true s name e h p k = let w = reverse-made s name e p in reverse-length s name (e .source) h (w .0) k
-source-short false s name e h p k = let w = forward-made s name e p in omega (arith, ap length (w .0))

@@ -1,38 +1,28 @@
 -- The bytes of a listing, spec by spec and item by item, as the loops write them. proofs/Listings.antt shows that they are the bytes of
 -- the meaning's rows.
-use Prim.Native.Nat.{ℕ, suc}
+use Prim.Native.Nat.{ℕ, suc, _≤_}
 use mathlib.Core.Bool.{Bool, true, false, cond}
+use mathlib.Core.Path.{_≡_}
 use mathlib.Core.List.{List, [], _∷_, _++_}
-use mathlib.Core.Option.{Option}
-use Rattle.meaning.specs.Bytes.{Text, each}
-use Rattle.meaning.specs.Spec.{Answer, accepted, refused, Spec, isNegative}
+use lib.ListN.{length, take}
+use Rattle.meaning.specs.Bytes.{Text}
+use Rattle.meaning.specs.Spec.{Answer, Spec, isNegative}
 use Rattle.meaning.specs.Buffers.{Written}
 use Rattle.meaning.specs.Entries.{matchLhs, matchRhs}
-use Rattle.meaning.specs.Rows.{Row, rowBytes, rowListOf}
-use Rattle.meaning.specs.Listing.{Ends, forwardEnds, reverseEnds, nameRow, objectRows, forwardRows, reverseRows}
+use Rattle.meaning.specs.Rows.{Row}
+use Rattle.meaning.specs.Listing.{forwardRows, reverseRows}
+use Rattle.pair.specs.Pairs.{itemBytes, objectBytes}
+use Rattle.hits.specs.Hits.{groupBytes, objectsBytes, objectHits}
 
 -- what each member gives with its number, counting up from n
 abbrev pub eachFrom : {A B : Type 0} → (ℕ → A → List B) → ℕ → List A → List B
 eachFrom f n [] = []
 eachFrom f n (x ∷ l) = f n x ++ eachFrom f (suc n) l
 
--- the ends that a spec makes of a name, forward or in reverse
-abbrev pub endsIn : Bool → Spec → Text → Option Ends
-endsIn true = reverseEnds
-endsIn false = forwardEnds
-
 -- the rows of a listing, forward or in reverse
 abbrev pub rowsIn : Bool → List Spec → List Text → List Row
 rowsIn true = reverseRows
 rowsIn false = forwardRows
-
--- the bytes of a row of a name, unless its source is gone
-abbrev pub rowUnless : (Text → Bool) → Row → Text
-rowUnless gone r = cond (gone (r .source)) [] (rowBytes r)
-
--- the bytes of item j under spec i: its row, if it has one
-unfoldable pub itemBytes : Bool → (Text → Bool) → ℕ → ℕ → Text → Spec → Text
-itemBytes reverse gone i j name s = each (nameRow i j (endsIn reverse s name)) (rowUnless gone)
 
 -- what a spec gives for each name, their numbers counting up from n
 abbrev pub itemsFrom : (ℕ → Text → Spec → Text) → ℕ → List Text → Spec → Text
@@ -42,21 +32,30 @@ itemsFrom f n names s = eachFrom (λ j name. f j name s) n names
 unfoldable pub specBytes : Bool → (Text → Bool) → List Text → ℕ → Spec → Text
 specBytes reverse gone names i s = cond (isNegative (s .mode)) [] (itemsFrom (itemBytes reverse gone i) 0 names s)
 
--- those of spec i as an object source
-unfoldable pub objectBytes : ℕ → Spec → Text
-objectBytes i s = rowListOf (objectRows (i, s))
-
 -- what the loops of a listing write: forward, the objects' rows first
 abbrev pub listingBytes : Bool → (Text → Bool) → List Spec → List Text → Text
 listingBytes true gone group names = eachFrom (specBytes true gone names) 0 group
 listingBytes false gone group names = eachFrom objectBytes 0 group ++ eachFrom (specBytes false gone names) 0 group
 
--- the names that an item list holds; none where it is refused
-abbrev pub namesOf : Answer (List Text) → List Text
-namesOf (accepted names) = names
-namesOf (refused n r) = []
-
 -- what a listing answers, forward or in reverse
 abbrev pub listed : Bool → ℕ → Text → Text → Answer Written
 listed true = matchRhs
 listed false = matchLhs
+
+-- what comes first in a listing of a table: forward, the objects' rows
+abbrev pub firstBytes : Bool → Text → List ℕ → ℕ → Text
+firstBytes true specs table group = []
+firstBytes false specs table group = objectsBytes specs table group
+
+-- and their hits
+abbrev pub firstHits : Bool → Text → List ℕ → ℕ → List ℕ
+firstHits true specs table group = []
+firstHits false specs table group = objectHits specs table group
+
+-- the bytes of a listing of a table and of places
+abbrev pub tableBytes : Bool → (Text → Bool) → Text → List ℕ → ℕ → Text → List ℕ → ℕ → Text
+tableBytes back gone specs table group items places n = firstBytes back specs table group ++ groupBytes back gone specs table group items places n
+
+-- so many hits, if there was room for all, are these
+pub record Noted (hits : List ℕ) (noted : ℕ) (codes : List ℕ) : Type 0 where
+  pub are : noted ≤ length hits → take noted hits ≡ codes

@@ -1,92 +1,146 @@
-// A listing of a group that was read: measured, then written.
+// A listing of a group that was read: measured, and its hits noted; then written.
 ghost use mathlib.Core.Path.{_≡_};
 ghost use mathlib.Core.List.{[], _∷_};
 ghost use mathlib.Core.Option.{some};
-ghost use Prim.Native.Nat.{_+_, _≤_};
-ghost use lib.ListN.{length, take};
+ghost use Prim.Native.Nat.{_+_, _≤_, _<_};
+ghost use lib.ListN.{length};
 ghost use Rattle.meaning.specs.Spec.{accepted};
-ghost use Rattle.meaning.specs.Lists.{readItems};
-ghost use Rattle.meaning.specs.Rows.{rowListOf};
 ghost use Rattle.meaning.specs.Buffers.{MeetsOne};
 ghost use Rattle.text.specs.Splice.{splice};
-ghost use Rattle.list.specs.Group.{groupMeant};
-ghost use Rattle.exclude.specs.Negatives.{Negatives, excludedBy};
-ghost use Rattle.match_group.specs.Listing.{eachFrom, itemBytes, specBytes, listingBytes, namesOf, rowsIn};
-ghost use Rattle.match_group.specs.Loops.{Askable, Scratch, Put, Readable, TableReady};
-ghost use Rattle.match_group.specs.Hits.{PlacesOf, groupHits, NotedAll};
-use super::hits::Found;
-use super::hits::put_hits;
-use super::hits::specs_found;
-use super::listing::put_specs;
-use super::object::objects_size;
-use super::object::put_objects;
-use super::places::put_places;
-use exclude::put_negatives;
-use parse::types::RefSpec;
+ghost use Rattle.exclude.specs.Negatives.{excludedBy};
+ghost use Rattle.pair.specs.Asking.{Askable, Put};
+ghost use Rattle.hits.specs.Hits.{specBytes, groupBytes, groupHits};
+ghost use Rattle.hits.specs.Noting.{PlacesIn, TableReady};
+ghost use Rattle.match_group.specs.Listing.{firstBytes, firstHits, tableBytes, Noted};
+use hits::found::Found;
+use hits::found::objects_found;
+use hits::found::spec_found;
+use hits::found::specs_found;
+use hits::put::put_hits;
 use write::written::Written;
 
-// Measures a listing, and notes the hits of its specs.
-fn rows_found(
+// Measures and notes what comes first: forward, the rows of object sources, whatever the items.
+fn first_found(back: bool, specs: &[u8], table: &[u16], group: usize, hits: &mut [u32]) -> Found
+    requires { ⌜ TableReady (now specs) (now table) group × (256 ≤ length (now hits)) × (length (now hits) ≤ 65536) ⌝ }
+    ensures { λ x. ⌜ (x .size ≡ length (firstBytes back (now (specs .entry)) (now (table .entry)) group)) × (x .size ≤ 128000000)
+        × Noted (now (hits .exit)) (x .hits) (firstHits back (now (specs .entry)) (now (table .entry)) group) × (x .hits ≤ length (now (hits .exit))) ⌝ }
+{
+    if back {
+        return Found { size: 0, hits: 0 };
+    }
+    objects_found(specs, table, group, hits)
+}
+
+// Writes what spec i gives, by another search for its hits, of which there are no more than names. Answers the place after it.
+fn put_spec(
+    out: &mut [u8],
+    at: usize,
     back: bool,
     specs: &[u8],
-    table: [RefSpec; 256],
-    n: usize,
+    table: &[u16],
+    group: usize,
+    i: usize,
     items: &[u8],
-    places: &[usize],
-    names: usize,
-    negatives: &[usize],
+    places: &[u16],
+    n: usize,
+    negatives: &[u16],
     count: usize,
-    scratch: &mut [u8],
-    hits: &mut [usize],
-) -> Found
-    requires { ⌜ TableReady (now specs) table n × PlacesOf (now items) (now places) names × Askable (now specs) (now negatives) count × Scratch (now scratch) × (length (now hits) ≤ 65536) ⌝ }
-    ensures { λ x. ⌜ (x .size ≡ length (listingBytes back (excludedBy (now (specs .entry)) (now (negatives .entry)) count) (groupMeant (now (specs .entry)) (take n table)) (namesOf (readItems (now (items .entry)))))) × (length (now (scratch .exit)) ≡ length (now (scratch .entry)))
-        × NotedAll (now (hits .exit)) (x .hits) (groupHits (itemBytes back (excludedBy (now (specs .entry)) (now (negatives .entry)) count)) (namesOf (readItems (now (items .entry)))) (groupMeant (now (specs .entry)) (take n table))) ⌝ }
+    hits: &mut [u32],
+) -> usize
+    requires { ⌜ TableReady (now specs) (now table) group × PlacesIn (now items) (now places) n × Askable (now specs) (now negatives) count × (i < group) × (1024 ≤ length (now hits)) × (length (now hits) ≤ 65536)
+        × (at + length (specBytes back (excludedBy (now specs) (now negatives) count) (now specs) (now table) (now items) (now places) n i) ≤ length (now out)) ⌝ }
+    ensures { λ r. ⌜ Put (now (out .entry)) at (specBytes back (excludedBy (now (specs .entry)) (now (negatives .entry)) count) (now (specs .entry)) (now (table .entry)) (now (items .entry)) (now (places .entry)) n i) (now (out .exit)) r × (length (now (hits .exit)) ≡ length (now (hits .entry))) ⌝ }
 {
-    let found = specs_found(
+    let x = spec_found(
         back,
         specs,
         table,
-        n,
+        group,
+        i,
         items,
         places,
-        names,
+        n,
         negatives,
         count,
-        scratch,
         hits,
+        0,
     );
-    if back {
-        return found;
-    }
-    let objects = objects_size(specs, table, n);
-    Found {
-        size: objects + found.size,
-        hits: found.hits,
-    }
+    put_hits(
+        out,
+        at,
+        back,
+        specs,
+        table,
+        group,
+        items,
+        places,
+        n,
+        hits,
+        x.hits,
+    )
 }
 
-// Writes the rows of all specs: those that were noted, or by another search where not all were.
+// Writes what all specs give, one after the other, and answers the place after it.
+fn put_specs(
+    out: &mut [u8],
+    at: usize,
+    back: bool,
+    specs: &[u8],
+    table: &[u16],
+    group: usize,
+    items: &[u8],
+    places: &[u16],
+    n: usize,
+    negatives: &[u16],
+    count: usize,
+    hits: &mut [u32],
+) -> usize
+    requires { ⌜ TableReady (now specs) (now table) group × PlacesIn (now items) (now places) n × Askable (now specs) (now negatives) count × (1024 ≤ length (now hits)) × (length (now hits) ≤ 65536)
+        × (at + length (groupBytes back (excludedBy (now specs) (now negatives) count) (now specs) (now table) group (now items) (now places) n) ≤ length (now out)) ⌝ }
+    ensures { λ r. ⌜ Put (now (out .entry)) at (groupBytes back (excludedBy (now (specs .entry)) (now (negatives .entry)) count) (now (specs .entry)) (now (table .entry)) group (now (items .entry)) (now (places .entry)) n) (now (out .exit)) r ⌝ }
+{
+    let mut end = at;
+    let mut i = 0;
+    while i < group {
+        end = put_spec(
+            out,
+            end,
+            back,
+            specs,
+            table,
+            group,
+            i,
+            items,
+            places,
+            n,
+            negatives,
+            count,
+            hits,
+        );
+        i += 1;
+    }
+    end
+}
+
+// Writes what all specs give: the hits that were noted, or by another search where not all were. Answers the place after it.
 fn put_found(
     out: &mut [u8],
     at: usize,
     back: bool,
     specs: &[u8],
-    table: [RefSpec; 256],
-    n: usize,
+    table: &[u16],
+    group: usize,
     items: &[u8],
-    places: &[usize],
-    names: usize,
-    negatives: &[usize],
+    places: &[u16],
+    n: usize,
+    negatives: &[u16],
     count: usize,
-    scratch: &mut [u8],
-    hits: &[usize],
+    hits: &mut [u32],
     noted: usize,
 ) -> usize
-    requires { ⌜ TableReady (now specs) table n × Readable (now items) × PlacesOf (now items) (now places) names × Askable (now specs) (now negatives) count × Scratch (now scratch)
-        × NotedAll (now hits) noted (groupHits (itemBytes back (excludedBy (now specs) (now negatives) count)) (namesOf (readItems (now items))) (groupMeant (now specs) (take n table)))
-        × (at + length (eachFrom (specBytes back (excludedBy (now specs) (now negatives) count) (namesOf (readItems (now items)))) 0 (groupMeant (now specs) (take n table))) ≤ length (now out)) ⌝ }
-    ensures { λ r. ⌜ Put (now (out .entry)) at (eachFrom (specBytes back (excludedBy (now (specs .entry)) (now (negatives .entry)) count) (namesOf (readItems (now (items .entry))))) 0 (groupMeant (now (specs .entry)) (take n table))) (now (out .exit)) r × (length (now (scratch .exit)) ≡ length (now (scratch .entry))) ⌝ }
+    requires { ⌜ TableReady (now specs) (now table) group × PlacesIn (now items) (now places) n × Askable (now specs) (now negatives) count × (1024 ≤ length (now hits)) × (length (now hits) ≤ 65536)
+        × Noted (now hits) noted (groupHits back (excludedBy (now specs) (now negatives) count) (now specs) (now table) group (now items) (now places) n) × (at + length (groupBytes back (excludedBy (now specs) (now negatives) count) (now specs) (now table) group (now items) (now places) n) ≤ length (now out)) ⌝ }
+    ensures { λ r. ⌜ Put (now (out .entry)) at (groupBytes back (excludedBy (now (specs .entry)) (now (negatives .entry)) count) (now (specs .entry)) (now (table .entry)) group (now (items .entry)) (now (places .entry)) n) (now (out .exit)) r ⌝ }
 {
     if hits.len() < noted {
         return put_specs(
@@ -95,11 +149,13 @@ fn put_found(
             back,
             specs,
             table,
-            n,
+            group,
             items,
+            places,
+            n,
             negatives,
             count,
-            scratch,
+            hits,
         );
     }
     put_hits(
@@ -108,109 +164,130 @@ fn put_found(
         back,
         specs,
         table,
-        n,
+        group,
         items,
         places,
-        names,
-        negatives,
-        count,
-        scratch,
+        n,
         hits,
         noted,
     )
 }
 
-// Writes a listing at the start of the buffer.
-fn put_rows(
+// Writes a listing at the start of the buffer: what comes first, and what the specs give for the names.
+fn put_listing(
     out: &mut [u8],
     back: bool,
     specs: &[u8],
-    table: [RefSpec; 256],
-    n: usize,
+    table: &[u16],
+    group: usize,
     items: &[u8],
-    places: &[usize],
-    names: usize,
-    negatives: &[usize],
+    places: &[u16],
+    n: usize,
+    negatives: &[u16],
     count: usize,
-    scratch: &mut [u8],
-    hits: &[usize],
+    first: &[u32],
+    noted_first: usize,
+    hits: &mut [u32],
     noted: usize,
 )
-    requires { ⌜ TableReady (now specs) table n × Readable (now items) × PlacesOf (now items) (now places) names × Askable (now specs) (now negatives) count × Scratch (now scratch)
-        × NotedAll (now hits) noted (groupHits (itemBytes back (excludedBy (now specs) (now negatives) count)) (namesOf (readItems (now items))) (groupMeant (now specs) (take n table)))
-        × (length (listingBytes back (excludedBy (now specs) (now negatives) count) (groupMeant (now specs) (take n table)) (namesOf (readItems (now items)))) ≤ length (now out)) ⌝ }
-    ensures { λ _. ⌜ now (out .exit) ≡ splice (now (out .entry)) 0 (listingBytes back (excludedBy (now (specs .entry)) (now (negatives .entry)) count) (groupMeant (now (specs .entry)) (take n table)) (namesOf (readItems (now (items .entry))))) ⌝ }
+    requires { ⌜ TableReady (now specs) (now table) group × PlacesIn (now items) (now places) n × Askable (now specs) (now negatives) count × Noted (now first) «noted_first» (firstHits back (now specs) (now table) group) × («noted_first» ≤ length (now first))
+        × (1024 ≤ length (now hits)) × (length (now hits) ≤ 65536) × Noted (now hits) noted (groupHits back (excludedBy (now specs) (now negatives) count) (now specs) (now table) group (now items) (now places) n)
+        × (length (tableBytes back (excludedBy (now specs) (now negatives) count) (now specs) (now table) group (now items) (now places) n) ≤ length (now out)) ⌝ }
+    ensures { λ _. ⌜ now (out .exit) ≡ splice (now (out .entry)) 0 (tableBytes back (excludedBy (now (specs .entry)) (now (negatives .entry)) count) (now (specs .entry)) (now (table .entry)) group (now (items .entry)) (now (places .entry)) n) ⌝ }
 {
-    if back {
-        put_found(
-            out,
-            0,
-            back,
-            specs,
-            table,
-            n,
-            items,
-            places,
-            names,
-            negatives,
-            count,
-            scratch,
-            hits,
-            noted,
-        );
-        return;
-    }
-    let at = put_objects(out, 0, specs, table, n);
+    let at = put_hits(
+        out,
+        0,
+        back,
+        specs,
+        table,
+        group,
+        items,
+        places,
+        n,
+        first,
+        noted_first,
+    );
     put_found(
         out,
         at,
         back,
         specs,
         table,
-        n,
+        group,
         items,
         places,
-        names,
+        n,
         negatives,
         count,
-        scratch,
         hits,
         noted,
     );
 }
 
-// A listing under the negatives of a table.
+// Measures and notes what the specs give for the names.
+fn rows_found(
+    back: bool,
+    specs: &[u8],
+    table: &[u16],
+    group: usize,
+    items: &[u8],
+    places: &[u16],
+    n: usize,
+    negatives: &[u16],
+    count: usize,
+    hits: &mut [u32],
+) -> Found
+    requires { ⌜ TableReady (now specs) (now table) group × PlacesIn (now items) (now places) n × Askable (now specs) (now negatives) count × (length (now hits) ≤ 65536) ⌝ }
+    ensures { λ x. ⌜ (x .size ≡ length (groupBytes back (excludedBy (now (specs .entry)) (now (negatives .entry)) count) (now (specs .entry)) (now (table .entry)) group (now (items .entry)) (now (places .entry)) n)) × (x .size ≤ 131072000000)
+        × Noted (now (hits .exit)) (x .hits) (groupHits back (excludedBy (now (specs .entry)) (now (negatives .entry)) count) (now (specs .entry)) (now (table .entry)) group (now (items .entry)) (now (places .entry)) n) × (length (now (hits .exit)) ≡ length (now (hits .entry))) ⌝ }
+{
+    specs_found(
+        back,
+        specs,
+        table,
+        group,
+        items,
+        places,
+        n,
+        negatives,
+        count,
+        hits,
+    )
+}
+
+// A listing whose hits are noted in `first` and `hits`.
 fn list_rows(
     back: bool,
     specs: &[u8],
-    table: [RefSpec; 256],
-    n: usize,
+    table: &[u16],
+    group: usize,
     items: &[u8],
-    places: &[usize],
-    names: usize,
-    negatives: &[usize],
+    places: &[u16],
+    n: usize,
+    negatives: &[u16],
     count: usize,
-    scratch: &mut [u8],
+    first: &mut [u32],
+    hits: &mut [u32],
     out: &mut [u8],
 ) -> Written
-    requires { ⌜ TableReady (now specs) table n × Negatives (now specs) (groupMeant (now specs) (take n table)) (now negatives) count × Readable (now items) × PlacesOf (now items) (now places) names × Scratch (now scratch) ⌝ }
-    ensures { λ w. ⌜ MeetsOne (accepted (some (rowListOf (rowsIn back (groupMeant (now (specs .entry)) (take n table)) (namesOf (readItems (now (items .entry)))))) ∷ [])) (now (out .entry)) (now (out .exit)) (w .refusal) (w .record) (w .length) ⌝ }
+    requires { ⌜ TableReady (now specs) (now table) group × PlacesIn (now items) (now places) n × Askable (now specs) (now negatives) count × (256 ≤ length (now first)) × (length (now first) ≤ 65536) × (1024 ≤ length (now hits)) × (length (now hits) ≤ 65536) ⌝ }
+    ensures { λ w. ⌜ MeetsOne (accepted (some (tableBytes back (excludedBy (now (specs .entry)) (now (negatives .entry)) count) (now (specs .entry)) (now (table .entry)) group (now (items .entry)) (now (places .entry)) n) ∷ [])) (now (out .entry)) (now (out .exit)) (w .refusal) (w .record) (w .length) ⌝ }
 {
-    let mut hits = [0; 1024];
+    let objects = first_found(back, specs, table, group, first);
     let found = rows_found(
         back,
         specs,
         table,
-        n,
+        group,
         items,
         places,
-        names,
+        n,
         negatives,
         count,
-        scratch,
-        &mut hits,
+        hits,
     );
-    let size = found.size;
+    let size = objects.size + found.size;
     if out.len() < size {
         return Written {
             refusal: 17,
@@ -218,21 +295,21 @@ fn list_rows(
             length: size as u64,
         };
     }
-    let noted = found.hits;
-    put_rows(
+    put_listing(
         out,
         back,
         specs,
         table,
-        n,
+        group,
         items,
         places,
-        names,
+        n,
         negatives,
         count,
-        scratch,
-        &hits,
-        noted,
+        first,
+        objects.hits,
+        hits,
+        found.hits,
     );
     Written {
         refusal: 0,
@@ -241,34 +318,36 @@ fn list_rows(
     }
 }
 
-// The listing of a group that was read.
+// The listing of a group in its tables.
 pub(crate) fn list_group(
     back: bool,
     specs: &[u8],
-    table: [RefSpec; 256],
-    n: usize,
+    table: &[u16],
+    group: usize,
     items: &[u8],
+    places: &[u16],
+    n: usize,
+    negatives: &[u16],
+    count: usize,
     out: &mut [u8],
 ) -> Written
-    requires { ⌜ TableReady (now specs) table n × Readable (now items) ⌝ }
-    ensures { λ w. ⌜ MeetsOne (accepted (some (rowListOf (rowsIn back (groupMeant (now (specs .entry)) (take n table)) (namesOf (readItems (now (items .entry)))))) ∷ [])) (now (out .entry)) (now (out .exit)) (w .refusal) (w .record) (w .length) ⌝ }
+    requires { ⌜ TableReady (now specs) (now table) group × PlacesIn (now items) (now places) n × Askable (now specs) (now negatives) count ⌝ }
+    ensures { λ w. ⌜ MeetsOne (accepted (some (tableBytes back (excludedBy (now (specs .entry)) (now (negatives .entry)) count) (now (specs .entry)) (now (table .entry)) group (now (items .entry)) (now (places .entry)) n) ∷ [])) (now (out .entry)) (now (out .exit)) (w .refusal) (w .record) (w .length) ⌝ }
 {
-    let mut negatives = [0; 1024];
-    let count = put_negatives(specs, table, n, &mut negatives);
-    let mut places = [0; 2048];
-    let names = put_places(items, &mut places);
-    let mut scratch = [0; 8192];
+    let mut first = [0u32; 256];
+    let mut hits = [0u32; 1024];
     list_rows(
         back,
         specs,
         table,
-        n,
+        group,
         items,
-        &places,
-        names,
-        &negatives,
+        places,
+        n,
+        negatives,
         count,
-        &mut scratch,
+        &mut first,
+        &mut hits,
         out,
     )
 }

@@ -1,21 +1,14 @@
-// The listings of a group: which names its specs map to what, and from what. Port of the crate's match_group/mod.rs.
+// The forward and the reverse listing of items under specs, as row lists. Port of the crate's match_group/mod.rs.
 ghost use mathlib.Core.Path.{_≡_};
-ghost use lib.ListN.{length};
 ghost use Rattle.meaning.specs.Buffers.{MeetsOne};
 ghost use Rattle.meaning.specs.Entries.{matchLhs, matchRhs};
 ghost use Rattle.match_group.specs.Listing.{listed};
 
 mod group;
-mod hits;
-mod item;
-mod listing;
-mod object;
-mod places;
-mod row;
 
 use group::list_group;
-use list::items::read_items;
-use list::specs::read_specs;
+use list::places::read_places;
+use noted::read::read_table;
 use write::written::Written;
 
 // A call that is refused writes nothing.
@@ -33,18 +26,29 @@ fn refused(refusal: u64, record: u64) -> Written
 fn list(back: bool, op: u64, specs: &[u8], items: &[u8], out: &mut [u8]) -> Written
     ensures { λ w. ⌜ MeetsOne (listed back op (now (specs .entry)) (now (items .entry))) (now (out .entry)) (now (out .exit)) (w .refusal) (w .record) (w .length) ⌝ }
 {
-    let g = read_specs(op, specs);
-    let refusal = g.refusal;
-    if refusal != 0 {
-        return refused(refusal, g.record);
+    let mut table = [0u16; 2560];
+    let mut negatives = [0u16; 1024];
+    let g = read_table(op, specs, &mut table, &mut negatives);
+    if g.refusal != 0 {
+        return refused(g.refusal, g.record);
     }
-    let c = read_items(items);
+    let mut places = [0u16; 2048];
+    let c = read_places(items, &mut places);
     if c.refusal != 0 {
         return refused(c.refusal, c.record);
     }
-    let table = g.specs;
-    let n = g.count;
-    list_group(back, specs, table, n, items, out)
+    list_group(
+        back,
+        specs,
+        &table,
+        g.count,
+        items,
+        &places,
+        c.count,
+        &negatives,
+        g.negatives,
+        out,
+    )
 }
 
 // The forward listing of the items under the specs, as a row list.

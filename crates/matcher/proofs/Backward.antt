@@ -59,7 +59,7 @@ module _ (specs name : Text) (src : Side) (star : ℕ) (dst : Side) (second : �
       let f : from + n ≤ length name = rw e at l in
       record {
         meant = rw (er, z) (ap (λ (o : Option Text). some (record { source = orEmpty o; destination = some name })) (filled-meant specs name src star from n w h));
-        within = rw er (filled-within specs name src star from n w h f, tt);
+        within = rw er (filled-within (length specs) (length name) src star from n w h f, tt);
       }
 
 -- ---- the arms of a `match`

@@ -69,8 +69,8 @@ module _ (specs name : Text) where
       ap some (ap₂ (λ (a b : Text). a ++ (partAt name from n ++ b)) (sym (take-take star size (drop at specs) (omega arith))) (after-part specs at size star h))
   filled-meant side.Head star from n w h = absurd h
 
-  -- and stand within the list and the name
-  pub filled-within : (s : Side) (star from n : ℕ) → Within (length specs) s → StarIn star s → from + n ≤ length name → MadeWithin (length specs) (length name) (filledPlace s star from n)
-  filled-within side.Absent star from n w h l = absurd h
-  filled-within (side.Part at size) star from n w h l = record { start-within = omega arith; capture-within = l; end-within = omega arith }
-  filled-within side.Head star from n w h l = absurd h
+-- and stand within the list and the name
+pub filled-within : (len nameLen : ℕ) (s : Side) (star from n : ℕ) → Within len s → StarIn star s → from + n ≤ nameLen → MadeWithin len nameLen (filledPlace s star from n)
+filled-within len nameLen side.Absent star from n w h l = absurd h
+filled-within len nameLen (side.Part at size) star from n w h l = record { start-within = omega arith; capture-within = l; end-within = omega arith }
+filled-within len nameLen side.Head star from n w h l = absurd h

@@ -53,18 +53,18 @@ module _ (dst : Side) (rhs : Target) where
 
 module _ (specs name : Text) (dst : Side) (w : Within (length specs) dst) where
   -- after a match as a whole
-  whole-answers : (rhs : Target) → Answers specs name dst rhs whole (wholePlaces dst rhs)
+  pub whole-answers : (rhs : Target) → Answers specs name dst rhs whole (wholePlaces dst rhs)
   whole-answers target.Absent = record { meant = refl; within = (tt, tt) }
   whole-answers (target.Pattern star) = record { meant = refl; within = tt }
   whole-answers (target.Literal l) = record { meant = refl; within = (tt, w) }
 
   -- after one with a capture
-  caught-answers : (rhs : Target) (from n : ℕ) → TargetWithin dst rhs → from + n ≤ length name → Answers specs name dst rhs (caught (partAt name from n)) (caughtPlaces dst rhs from n)
+  pub caught-answers : (rhs : Target) (from n : ℕ) → TargetWithin dst rhs → from + n ≤ length name → Answers specs name dst rhs (caught (partAt name from n)) (caughtPlaces dst rhs from n)
   caught-answers target.Absent from n h l = record { meant = refl; within = (tt, tt) }
   caught-answers (target.Pattern star) from n h l =
       record {
         meant = ap (λ (o : Option Text). some (record { source = name; destination = o })) (filled-meant specs name dst star from n w h);
-        within = (tt, filled-within specs name dst star from n w h l);
+        within = (tt, filled-within (length specs) (length name) dst star from n w h l);
       }
   caught-answers (target.Literal l′) from n h l = record { meant = refl; within = tt }
 

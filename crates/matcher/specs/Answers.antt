@@ -14,7 +14,6 @@ use Rattle.parse.specs.declared.types.Side.the-variants as side
 use Rattle.refspec.specs.Instructions.{sideText}
 use Rattle.matcher.specs.declared.types.Needle.{Needle}
 use Rattle.matcher.specs.declared.types.Needle.the-variants as needle
-use Rattle.matcher.specs.declared.types.Lead.{Lead}
 use Rattle.matcher.specs.declared.types.Lead.the-variants as lead
 use Rattle.matcher.specs.declared.types.Target.{Target}
 use Rattle.matcher.specs.declared.types.Target.the-variants as target
@@ -23,14 +22,6 @@ use Rattle.matcher.specs.declared.types.Made.the-variants as made
 use Rattle.matcher.specs.declared.types.Ends.{Ends}
 use Rattle.matcher.specs.declared.types.Ends.the-variants as ends
 use Rattle.matcher.specs.Matching.{ledText, endsMeant, EndsWithin}
-
--- how many bytes lead
-abbrev pub leadSize : Lead → ℕ
-leadSize lead.AsIs = 0
-leadSize lead.Refs = 5
-leadSize lead.Heads = 11
-leadSize lead.HeadsDigits = 11
-leadSize lead.Digits = 0
 
 -- a pattern with n bytes of the name, from a place on, for its star; only a part of the spec list has a star
 abbrev pub filledPlace : Side → ℕ → ℕ → ℕ → Made

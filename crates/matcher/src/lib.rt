@@ -1,18 +1,22 @@
 // One spec against one name, forward and in reverse. Port of the crate's match_group/util.rs.
 ghost use mathlib.Core.Path.{_≡_};
 ghost use mathlib.Core.List.{[]};
+ghost use Prim.Native.Nat.{_≤_};
 ghost use lib.ListN.{length};
+ghost use Rattle.meaning.specs.Limits.{nameBytes};
 ghost use Rattle.meaning.specs.Spec.{Spec};
 ghost use Rattle.meaning.specs.Listing.{forwardEnds, reverseEnds};
 ghost use Rattle.parse.specs.Places.{SidesWithin, specMeant};
 ghost use Rattle.matcher.specs.Matching.{endsMeant, EndsWithin, MatcherWithin, Matches, objectEnds};
+ghost use Rattle.matcher.specs.Known.{KnownForward, KnownReverse};
 
-pub mod filter;
-pub mod made;
+mod known;
 mod needle;
 mod rows;
 pub mod types;
 
+use known::forward_known;
+use known::reverse_known;
 use needle::needle_of;
 use needle::target_of;
 use parse::types::RefSpec;
@@ -72,4 +76,28 @@ pub fn object(specs: &[u8], m: Matcher) -> Ends
     let dst = m.dst;
     let rhs = m.rhs;
     object_row(src, lhs, dst, rhs)
+}
+
+// The ends of the forward row of a name of n bytes, which is known to have one, or of the row of an object source.
+pub fn known_forward(specs: &[u8], m: Matcher, n: usize) -> Ends
+    requires { ⌜ MatcherWithin (length (now specs)) m × (n ≤ nameBytes) ⌝ }
+    ensures { λ r. ⌜ KnownForward (now (specs .entry)) m n r ⌝ }
+{
+    let src = m.src;
+    let lhs = m.lhs;
+    let dst = m.dst;
+    let rhs = m.rhs;
+    forward_known(specs, src, lhs, dst, rhs, n)
+}
+
+// The ends of the reverse row of a name of n bytes, which is known to have one.
+pub fn known_reverse(specs: &[u8], m: Matcher, n: usize) -> Ends
+    requires { ⌜ MatcherWithin (length (now specs)) m × (n ≤ nameBytes) ⌝ }
+    ensures { λ r. ⌜ KnownReverse (now (specs .entry)) m n r ⌝ }
+{
+    let src = m.src;
+    let lhs = m.lhs;
+    let dst = m.dst;
+    let rhs = m.rhs;
+    reverse_known(specs, src, lhs, dst, rhs, n)
 }

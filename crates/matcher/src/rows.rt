@@ -51,7 +51,7 @@ fn filled(specs: &[u8], side: Side, star: usize, from: usize, len: usize) -> Mad
 }
 
 // The ends of a name that was matched as a whole: a literal destination is completed.
-fn whole_row(dst: Side, rhs: Target) -> Ends
+pub(crate) fn whole_row(dst: Side, rhs: Target) -> Ends
     ensures { λ r. ⌜ r ≡ wholePlaces dst rhs ⌝ }
 {
     match rhs {
@@ -80,7 +80,7 @@ fn filled_row(specs: &[u8], dst: Side, star: usize, from: usize, len: usize) -> 
 }
 
 // The ends of a name that was matched with a capture.
-fn caught_row(specs: &[u8], dst: Side, rhs: Target, from: usize, len: usize) -> Ends
+pub(crate) fn caught_row(specs: &[u8], dst: Side, rhs: Target, from: usize, len: usize) -> Ends
     requires { ⌜ Within (length (now specs)) dst × TargetWithin dst rhs ⌝ }
     ensures { λ r. ⌜ r ≡ caughtPlaces dst rhs from len ⌝ }
 {
@@ -188,7 +188,7 @@ fn literal_back(specs: &[u8], src: Side, dst: Side, rhs: Target, name: &[u8]) ->
 }
 
 // The ends of a name that the capture of the destination makes in the source's pattern.
-fn filled_back(specs: &[u8], src: Side, star: usize, from: usize, len: usize) -> Ends
+pub(crate) fn filled_back(specs: &[u8], src: Side, star: usize, from: usize, len: usize) -> Ends
     requires { ⌜ Within (length (now specs)) src × StarIn star src ⌝ }
     ensures { λ r. ⌜ r ≡ Ends.Row (filledPlace src star from len) Made.Name ⌝ }
 {
@@ -244,7 +244,7 @@ pub(crate) fn reverse_row(
 }
 
 // The ends of an object source's row by its destination.
-fn digits_row(src: Side, dst: Side, rhs: Target) -> Ends
+pub(crate) fn digits_row(src: Side, dst: Side, rhs: Target) -> Ends
     ensures { λ r. ⌜ r ≡ digitsPlaces src dst rhs ⌝ }
 {
     match rhs {

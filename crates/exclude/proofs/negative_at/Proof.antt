@@ -1,46 +1,58 @@
 -- `exclude::negative_at` meets its contract: the four numbers tell the negative.
 use Rattle.exclude.proofs.Tables.{numbers-tell}
 use borrow.Author.Needs.{needs}
-use borrow.Author.Needs.{needs}
 use Rattle.exclude.proofs.negative_at.Statement.{statement}
 use Rattle.exclude.proofs.negative_at.Tie as tie
 use Rattle.exclude.proofs.negative_from.Reads as negative-from-reads
+use Rattle.exclude.proofs.wide.Reads as wide-reads
 
 mul-i : tie.Need-mul-i
 mul-i c = search needs
 
-mul-negative-from : tie.Need-mul-negative-from
-mul-negative-from c = search needs
+mul-wide : tie.Need-mul-wide
+mul-wide c = search needs
 
-shared-slice-read-negative-from : tie.Need-shared-slice-read-negative-from
-shared-slice-read-negative-from c = search needs
+shared-slice-read-wide : tie.Need-shared-slice-read-wide
+shared-slice-read-wide c = search needs
 
-add-negative-from : tie.Need-add-negative-from
-add-negative-from c = search needs
+wide-requires : tie.Need-wide-requires
+wide-requires c κs = search needs
 
-mul-negative-from-2 : tie.Need-mul-negative-from-2
-mul-negative-from-2 c = search needs
+add-wide : tie.Need-add-wide
+add-wide c = search needs
 
-shared-slice-read-negative-from-2 : tie.Need-shared-slice-read-negative-from-2
-shared-slice-read-negative-from-2 c = search needs
+mul-wide-2 : tie.Need-mul-wide-2
+mul-wide-2 c = search needs
 
-add-negative-from-2 : tie.Need-add-negative-from-2
-add-negative-from-2 c = search needs
+shared-slice-read-wide-2 : tie.Need-shared-slice-read-wide-2
+shared-slice-read-wide-2 c = search needs
 
-mul-negative-from-3 : tie.Need-mul-negative-from-3
-mul-negative-from-3 c = search needs
+wide-requires-2 : tie.Need-wide-requires-2
+wide-requires-2 c κs = search needs
 
-shared-slice-read-negative-from-3 : tie.Need-shared-slice-read-negative-from-3
-shared-slice-read-negative-from-3 c = search needs
+add-wide-2 : tie.Need-add-wide-2
+add-wide-2 c = search needs
 
-add-negative-from-3 : tie.Need-add-negative-from-3
-add-negative-from-3 c = search needs
+mul-wide-3 : tie.Need-mul-wide-3
+mul-wide-3 c = search needs
 
-mul-negative-from-4 : tie.Need-mul-negative-from-4
-mul-negative-from-4 c = search needs
+shared-slice-read-wide-3 : tie.Need-shared-slice-read-wide-3
+shared-slice-read-wide-3 c = search needs
 
-shared-slice-read-negative-from-4 : tie.Need-shared-slice-read-negative-from-4
-shared-slice-read-negative-from-4 c = search needs
+wide-requires-3 : tie.Need-wide-requires-3
+wide-requires-3 c κs = search needs
+
+add-wide-3 : tie.Need-add-wide-3
+add-wide-3 c = search needs
+
+mul-wide-4 : tie.Need-mul-wide-4
+mul-wide-4 c = search needs
+
+shared-slice-read-wide-4 : tie.Need-shared-slice-read-wide-4
+shared-slice-read-wide-4 c = search needs
+
+wide-requires-4 : tie.Need-wide-requires-4
+wide-requires-4 c κs = search needs
 
 negative-from-requires : tie.Need-negative-from-requires
 negative-from-requires c κs = search needs
@@ -53,16 +65,20 @@ negative-at-spec =
     tie.close
     (tie.spec
     mul-i
-    mul-negative-from
-    shared-slice-read-negative-from
-    add-negative-from
-    mul-negative-from-2
-    shared-slice-read-negative-from-2
-    add-negative-from-2
-    mul-negative-from-3
-    shared-slice-read-negative-from-3
-    add-negative-from-3
-    mul-negative-from-4
-    shared-slice-read-negative-from-4
+    mul-wide
+    shared-slice-read-wide
+    wide-requires
+    add-wide
+    mul-wide-2
+    shared-slice-read-wide-2
+    wide-requires-2
+    add-wide-2
+    mul-wide-3
+    shared-slice-read-wide-3
+    wide-requires-3
+    add-wide-3
+    mul-wide-4
+    shared-slice-read-wide-4
+    wide-requires-4
     negative-from-requires
     returns)

@@ -1,5 +1,5 @@
 -- `exclude::put_if_negative` meets its contract: a negative is put after the others, another spec adds nothing.
-use Rattle.exclude.proofs.Filling.{added-none, added-one}
+use Rattle.exclude.proofs.Filling.{negative-small, added-none, added-one}
 use borrow.Author.Needs.{needs}
 use borrow.Author.Needs.{needs}
 use Rattle.exclude.proofs.put_if_negative.Statement.{statement}
@@ -18,7 +18,7 @@ negative-of-requires : tie.Need-negative-of-requires
 negative-of-requires c κs = search needs
 
 put-negative-requires : tie.Need-put-negative-requires
-put-negative-requires c κs = search needs
+put-negative-requires c κs = (search needs, search needs, search negative-small)
 
 same-length : tie.Need-same-length
 same-length c = search needs

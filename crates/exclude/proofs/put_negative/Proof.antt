@@ -1,5 +1,5 @@
 -- `exclude::put_negative` meets its contract: each arm is one kind of negative.
-use Rattle.exclude.proofs.Arms.{put-arm}
+use Rattle.exclude.proofs.Arms.{literal-start, literal-size, glob-start, glob-size, glob-star, put-arm}
 use borrow.Author.Needs.{needs}
 use borrow.Author.Needs.{needs}
 use Rattle.exclude.proofs.put_negative.Statement.{statement}
@@ -22,13 +22,13 @@ enum-known-n : tie.Need-enum-known-n
 enum-known-n c = search needs
 
 put-numbers-requires-3 : tie.Need-put-numbers-requires-3
-put-numbers-requires-3 c κs = search needs
+put-numbers-requires-3 c κs = (search needs, search needs, search needs, search literal-start, search literal-size, search needs)
 
 enum-known-n-2 : tie.Need-enum-known-n-2
 enum-known-n-2 c = search needs
 
 put-numbers-requires-4 : tie.Need-put-numbers-requires-4
-put-numbers-requires-4 c κs = search needs
+put-numbers-requires-4 c κs = (search needs, search needs, search needs, search glob-start, search glob-size, search glob-star)
 
 same-length : tie.Need-same-length
 same-length c = search needs

@@ -5,18 +5,23 @@ use lib.ListN.{length}
 use mathlib.Core.Path.{refl}
 use Rattle.exclude.proofs.Tables.{second-room, third-room, fourth-room, stored}
 use borrow.Author.Needs.{needs}
-use borrow.Author.Needs.{needs}
 use Rattle.exclude.proofs.put_numbers.Statement.{statement}
 use Rattle.exclude.proofs.put_numbers.Tie as tie
 
 mul-i : tie.Need-mul-i
 mul-i c = search needs
 
+cast-out : tie.Need-cast-out
+cast-out c = search needs
+
 mul-out : tie.Need-mul-out
 mul-out c = search needs
 
 slice-write-out : tie.Need-slice-write-out
 slice-write-out c = search needs
+
+cast-out-2 : tie.Need-cast-out-2
+cast-out-2 c = search needs
 
 add-out : tie.Need-add-out
 add-out c = search needs
@@ -27,6 +32,9 @@ mul-out-2 c = search needs
 slice-write-out-2 : tie.Need-slice-write-out-2
 slice-write-out-2 c = let h : 4 * c .args .k + 4 ≤ length (c .args .out .now) = omega arith in search second-room
 
+cast-out-3 : tie.Need-cast-out-3
+cast-out-3 c = search needs
+
 add-out-2 : tie.Need-add-out-2
 add-out-2 c = search needs
 
@@ -35,6 +43,9 @@ mul-out-3 c = search needs
 
 slice-write-out-3 : tie.Need-slice-write-out-3
 slice-write-out-3 c = let h : 4 * c .args .k + 4 ≤ length (c .args .out .now) = omega arith in search third-room
+
+cast-out-4 : tie.Need-cast-out-4
+cast-out-4 c = search needs
 
 add-out-3 : tie.Need-add-out-3
 add-out-3 c = search needs
@@ -59,14 +70,18 @@ put-numbers-spec =
     tie.close
     (tie.spec
     mul-i
+    cast-out
     mul-out
     slice-write-out
+    cast-out-2
     add-out
     mul-out-2
     slice-write-out-2
+    cast-out-3
     add-out-2
     mul-out-3
     slice-write-out-3
+    cast-out-4
     add-out-3
     mul-out-4
     slice-write-out-4

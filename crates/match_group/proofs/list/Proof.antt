@@ -1,15 +1,17 @@
--- Each list is read wholly, and then the rows are listed. Assumes nothing.
-use Rattle.match_group.proofs.Entry.{specs-refused, group-ready, items-turned, rows-listed, items-readable}
+-- Each list is read wholly, and then the rows are listed.
+use Rattle.match_group.proofs.Entry.{specs-refused, specs-ready, specs-askable, items-turned, items-placed, rows-listed}
 use borrow.Author.Needs.{needs}
 use Rattle.match_group.proofs.list.Statement.{statement}
 use Rattle.match_group.proofs.list.Tie as tie
-use Rattle.list.proofs.items.read_items.Reads as read-items-reads
-use Rattle.list.proofs.specs.read_specs.Reads as read-specs-reads
-use Rattle.match_group.proofs.group.list_group.Reads as list-group-reads
-use Rattle.match_group.proofs.refused.Reads as refused-reads
 
-read-specs-requires : tie.Need-read-specs-requires
-read-specs-requires c κs = search needs
+slice-aggregate-read-table : tie.Need-slice-aggregate-read-table
+slice-aggregate-read-table c = search needs
+
+slice-aggregate-read-table-2 : tie.Need-slice-aggregate-read-table-2
+slice-aggregate-read-table-2 c = search needs
+
+read-table-requires : tie.Need-read-table-requires
+read-table-requires c κs = search needs
 
 refused-requires : tie.Need-refused-requires
 refused-requires c κs = search needs
@@ -17,8 +19,11 @@ refused-requires c κs = search needs
 returns : tie.Need-returns
 returns c = search specs-refused
 
-read-items-requires : tie.Need-read-items-requires
-read-items-requires c κs = search needs
+slice-aggregate-read-places : tie.Need-slice-aggregate-read-places
+slice-aggregate-read-places c = search needs
+
+read-places-requires : tie.Need-read-places-requires
+read-places-requires c κs = search needs
 
 refused-requires-2 : tie.Need-refused-requires-2
 refused-requires-2 c κs = search needs
@@ -26,8 +31,17 @@ refused-requires-2 c κs = search needs
 returns-2 : tie.Need-returns-2
 returns-2 c = search items-turned
 
+slice-aggregate-list-group : tie.Need-slice-aggregate-list-group
+slice-aggregate-list-group c = search needs
+
+slice-aggregate-list-group-2 : tie.Need-slice-aggregate-list-group-2
+slice-aggregate-list-group-2 c = search needs
+
+slice-aggregate-list-group-3 : tie.Need-slice-aggregate-list-group-3
+slice-aggregate-list-group-3 c = search needs
+
 list-group-requires : tie.Need-list-group-requires
-list-group-requires c κs = (search group-ready, search items-readable)
+list-group-requires c κs = (search specs-ready, search items-placed, search specs-askable)
 
 same-length : tie.Need-same-length
 same-length c = search needs
@@ -39,12 +53,18 @@ pub list-spec : {M : Type 1} → statement M
 list-spec =
     tie.close
     (tie.spec
-    read-specs-requires
+    slice-aggregate-read-table
+    slice-aggregate-read-table-2
+    read-table-requires
     refused-requires
     returns
-    read-items-requires
+    slice-aggregate-read-places
+    read-places-requires
     refused-requires-2
     returns-2
+    slice-aggregate-list-group
+    slice-aggregate-list-group-2
+    slice-aggregate-list-group-3
     list-group-requires
     same-length
     returns-3)

@@ -1,0 +1,83 @@
+-- A quick look at a name: how many bytes it has, and eight of them.
+use Prim.Native.Nat.{ℕ, _+_, _-_, _*_, _≤_}
+use mathlib.Core.Path.{_≡_}
+use mathlib.Core.Bool.{Bool, true, false, cond}
+use mathlib.Core.List.{List}
+use mathlib.Core.Option.{none}
+use lib.Dec.{eqb, leb, ltb}
+use lib.ListN.{length, drop, getD}
+use Rattle.meaning.specs.Bytes.{Text, _and_, _or_}
+use Rattle.meaning.specs.Limits.{nameBytes}
+use Rattle.meaning.specs.Spec.{Spec}
+use Rattle.meaning.specs.Listing.{forwardEnds, reverseEnds}
+use Rattle.text.specs.Word.{number}
+use Rattle.parse.specs.declared.types.Side.{Side}
+use Rattle.parse.specs.declared.types.Side.the-variants.{Absent, Part, Head}
+use Rattle.parse.specs.Places.{partAt}
+use Rattle.matcher.specs.declared.types.Matcher.{Matcher}
+use Rattle.matcher.specs.Matching.{Matches}
+use Rattle.filter.specs.declared.Filter.{Filter}
+
+-- one of the six frames of a partial name adds so many bytes
+unfoldable pub frameAdds : ℕ → Bool
+frameAdds d = eqb d 0 or eqb d 5 or eqb d 10 or eqb d 11 or eqb d 13 or eqb d 18
+
+-- a name of a size that passes is looked at: eight of its bytes are the filter's, or it has as many as a candidate
+unfoldable pub looksRight : Filter → Text → Bool
+looksRight f name = cond (f .worded) (eqb (number 0 8 (drop (f .from) name)) (f .word)) (cond (f .framed) (frameAdds (length name - f .least)) true)
+
+-- a name passes a filter
+unfoldable pub passes : Filter → Text → Bool
+passes f name = leb (f .least) (length name) and leb (length name) (f .most) and looksRight f name
+
+-- the eight bytes that a filter looks at stand in each name that is long enough
+abbrev pub FilterWithin : Filter → Type 0
+FilterWithin f = f .worded ≡ true → f .from + 8 ≤ f .least
+
+-- name number k of an item list, by the places where the names stand, two numbers for each
+abbrev pub nameAt : Text → List ℕ → ℕ → Text
+nameAt items places k = partAt items (getD places (2 * k) 0) (getD places (2 * k + 1) 0)
+
+-- ---- the filters
+
+-- names of so many bytes, and of a candidate's size, if `framed`
+abbrev pub sized : ℕ → ℕ → Bool → Filter
+sized least most framed = record { least = least; most = most; worded = false; from = 0; word = 0; framed = framed }
+
+-- names of so many bytes which have, where the n bytes of s that begin at a place have eight or more, the last eight of them
+unfoldable pub alike : Text → ℕ → ℕ → ℕ → ℕ → Filter
+alike s at n least most =
+    cond (ltb n 8) (sized least most false)
+    (record { least = least; most = most; worded = true; from = n - 8; word = number 0 8 (drop (at + (n - 8)) s); framed = false })
+
+-- nothing
+abbrev pub noFilter : Filter
+noFilter = sized 1 0 false
+
+-- what is a side as a whole
+abbrev pub wholeFilter : Text → Side → Filter
+wholeFilter s Absent = sized 0 4096 false
+wholeFilter s (Part at n) = alike s at n n n
+wholeFilter s Head = sized 4 4 false
+
+-- what begins with a side up to its star, and is not shorter than the rest of it
+abbrev pub startFilter : Text → Side → ℕ → Filter
+startFilter s Absent star = sized 0 4096 false
+startFilter s (Part at n) star = alike s at star (n - 1) 4096
+startFilter s Head star = sized 0 4096 false
+
+-- what may be a candidate of a side
+abbrev pub partFilter : Side → Filter
+partFilter Absent = sized 0 4096 false
+partFilter (Part at n) = sized n (n + 18) true
+partFilter Head = sized 4 22 true
+
+-- what a filter stops has no forward row under the spec of a matcher
+pub record StopsForward (specs : Text) (m : Matcher) (f : Filter) : Type 0 where
+  pub stops : (name : Text) → length name ≤ nameBytes → passes f name ≡ false → (s : Spec) → Matches specs s m → forwardEnds s name ≡ none
+  pub within : FilterWithin f
+
+-- nor a reverse row
+pub record StopsReverse (specs : Text) (m : Matcher) (f : Filter) : Type 0 where
+  pub stops : (name : Text) → length name ≤ nameBytes → passes f name ≡ false → (s : Spec) → Matches specs s m → reverseEnds s name ≡ none
+  pub within : FilterWithin f

@@ -1,0 +1,202 @@
+// A quick look at names before a spec is asked: how many bytes they have, and eight of them. What is stopped has no row.
+ghost use mathlib.Core.Path.{_≡_};
+ghost use mathlib.Core.Bool.{true, false};
+ghost use Prim.Native.Nat.{ℕ, _+_, _*_, _≤_, _<_};
+ghost use lib.ListN.{length, getD};
+ghost use Rattle.meaning.specs.Limits.{listBytes};
+ghost use Rattle.parse.specs.Places.{partAt, Within};
+ghost use Rattle.matcher.specs.Matching.{MatcherWithin, StarIn};
+ghost use Rattle.filter.specs.Filters.{frameAdds, passes, FilterWithin, nameAt, sized, alike, noFilter, wholeFilter, startFilter, partFilter, StopsForward, StopsReverse};
+use matcher::types::Matcher;
+use matcher::types::Needle;
+use matcher::types::Target;
+use parse::types::Side;
+
+// Document 01's limit on a name's bytes.
+const NAME_BYTES: usize = 4096;
+
+// How many bytes the longest frame of a partial name adds: `refs/remotes/` and `/HEAD`.
+const LONGEST_FRAME: usize = 18;
+
+// A name passes that has from `least` to `most` bytes and, where `worded`, those from `from` on that make the number
+// `word`, or else, where `framed`, as many bytes more than `least` as one of the frames of a partial name adds.
+pub struct Filter {
+    pub least: usize,
+    pub most: usize,
+    pub worded: bool,
+    pub from: usize,
+    pub word: u64,
+    pub framed: bool,
+}
+
+// A filter for how many bytes a name has.
+fn sized(least: usize, most: usize, framed: bool) -> Filter
+    ensures { λ f. ⌜ f ≡ sized least most framed ⌝ }
+{
+    Filter {
+        least,
+        most,
+        worded: false,
+        from: 0,
+        word: 0,
+        framed,
+    }
+}
+
+// A filter for how many bytes a name has and, where the `len` bytes that begin at `at` are so many, for the last eight of them.
+fn alike(specs: &[u8], at: usize, len: usize, least: usize, most: usize) -> Filter
+    requires { ⌜ at + len ≤ length (now specs) ⌝ }
+    ensures { λ f. ⌜ f ≡ alike (now (specs .entry)) at len least most ⌝ }
+{
+    if len < 8 {
+        return sized(least, most, false);
+    }
+    let from = len - 8;
+    let word = text::word::word(specs, at + from);
+    Filter {
+        least,
+        most,
+        worded: true,
+        from,
+        word,
+        framed: false,
+    }
+}
+
+// Nothing passes.
+fn no_filter() -> Filter
+    ensures { λ f. ⌜ f ≡ noFilter ⌝ }
+{
+    sized(1, 0, false)
+}
+
+// What is a side as a whole.
+fn whole_filter(specs: &[u8], side: Side) -> Filter
+    requires { ⌜ Within (length (now specs)) side ⌝ }
+    ensures { λ f. ⌜ f ≡ wholeFilter (now (specs .entry)) side ⌝ }
+{
+    match side {
+        Side::Absent => sized(0, NAME_BYTES, false),
+        Side::Part(at, len) => alike(specs, at, len, len, len),
+        Side::Head => sized(4, 4, false),
+    }
+}
+
+// What begins with a side up to its star, and is not shorter than the rest of it.
+fn start_filter(specs: &[u8], side: Side, star: usize) -> Filter
+    requires { ⌜ Within (length (now specs)) side × StarIn star side ⌝ }
+    ensures { λ f. ⌜ f ≡ startFilter (now (specs .entry)) side star ⌝ }
+{
+    match side {
+        Side::Absent => sized(0, NAME_BYTES, false),
+        Side::Part(at, len) => alike(specs, at, star, len - 1, NAME_BYTES),
+        Side::Head => sized(0, NAME_BYTES, false),
+    }
+}
+
+// What may be a candidate of a partial name of n bytes.
+fn framed(n: usize) -> Filter
+    requires { ⌜ n ≤ listBytes ⌝ }
+    ensures { λ f. ⌜ f ≡ sized n (n + 18) true ⌝ }
+{
+    sized(n, n + LONGEST_FRAME, true)
+}
+
+// What may be a candidate of a side.
+fn part_filter(len: usize, side: Side) -> Filter
+    requires { ⌜ Within len side × (len ≤ listBytes) ⌝ }
+    ensures { λ f. ⌜ f ≡ partFilter side ⌝ }
+{
+    match side {
+        Side::Absent => sized(0, NAME_BYTES, false),
+        Side::Part(_, n) => framed(n),
+        Side::Head => framed(4),
+    }
+}
+
+// The filter of a spec's forward rows.
+pub fn forward_filter(specs: &[u8], m: Matcher) -> Filter
+    requires { ⌜ MatcherWithin (length (now specs)) m × (length (now specs) ≤ listBytes) ⌝ }
+    ensures { λ f. ⌜ StopsForward (now (specs .entry)) m f ⌝ }
+{
+    let src = m.src;
+    let lhs = m.lhs;
+    match lhs {
+        Needle::Absent => no_filter(),
+        Needle::Glob(star) => start_filter(specs, src, star),
+        Needle::FullName => whole_filter(specs, src),
+        Needle::Object => no_filter(),
+        Needle::PartialName => part_filter(specs.len(), src),
+    }
+}
+
+// The filter of a spec's reverse rows.
+pub fn reverse_filter(specs: &[u8], m: Matcher) -> Filter
+    requires { ⌜ MatcherWithin (length (now specs)) m × (length (now specs) ≤ listBytes) ⌝ }
+    ensures { λ f. ⌜ StopsReverse (now (specs .entry)) m f ⌝ }
+{
+    let dst = m.dst;
+    let rhs = m.rhs;
+    match rhs {
+        Target::Absent => no_filter(),
+        Target::Pattern(star) => start_filter(specs, dst, star),
+        Target::Literal(_) => whole_filter(specs, dst),
+    }
+}
+
+// One of the six frames of a partial name adds so many bytes.
+fn frame_adds(d: usize) -> bool
+    ensures { λ r. ⌜ r ≡ frameAdds d ⌝ }
+{
+    match d {
+        0 => true,
+        5 => true,
+        10 => true,
+        11 => true,
+        13 => true,
+        18 => true,
+        _ => false,
+    }
+}
+
+// The name of n bytes that begin at `start` passes a filter.
+fn passes(f: Filter, items: &[u8], start: usize, n: usize) -> bool
+    requires { ⌜ FilterWithin f × (start + n ≤ length (now items)) ⌝ }
+    ensures { λ r. ⌜ r ≡ passes f (partAt (now (items .entry)) start n) ⌝ }
+{
+    if n < f.least {
+        return false;
+    }
+    if f.most < n {
+        return false;
+    }
+    if f.worded {
+        return text::word::word(items, start + f.from) == f.word;
+    }
+    if f.framed {
+        return frame_adds(n - f.least);
+    }
+    true
+}
+
+// A number of a table as a place.
+fn wide(n: u16) -> usize
+    ensures { λ r. ⌜ r ≡ n ⌝ }
+{
+    n as usize
+}
+
+// The number, `from` or after it, of the first of n names that passes a filter; n where none does.
+pub fn next_passing(f: Filter, items: &[u8], places: &[u16], n: usize, from: usize) -> usize
+    requires { ⌜ FilterWithin f × (from ≤ n) × (2 * n ≤ length (now places)) × ((k : ℕ) → k < n → getD (now places) (2 * k) 0 + getD (now places) (2 * k + 1) 0 ≤ length (now items)) ⌝ }
+    ensures { λ r. ⌜ (from ≤ r) × (r ≤ n) × ((k : ℕ) → from ≤ k → k < r → passes f (nameAt (now (items .entry)) (now (places .entry)) k) ≡ false) ⌝ }
+{
+    let mut j = from;
+    while j < n {
+        if passes(f, items, wide(places[2 * j]), wide(places[2 * j + 1])) {
+            return j;
+        }
+        j += 1;
+    }
+    j
+}

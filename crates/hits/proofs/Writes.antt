@@ -1,0 +1,127 @@
+-- The loop that writes: what is written, and what the hits that are left give, make the whole. Assumes nothing.
+use mathlib.Core.Path.{_≡_, refl, sym, ap, _∙_}
+use mathlib.Core.Bool.{Bool}
+use mathlib.Core.List.{List, [], _∷_, _++_}
+use Prim.Native.Nat.{ℕ, zero, suc, _+_, _-_, _*_, _/_, _%_, _≤_, _<_}
+use native.Mathlib.Omega.{arith}
+use native.Mathlib.Numerals.{add-one}
+use lib.ListN.{length, getD, take, drop, length-take, drop-of-length-le}
+use lib.Seq.{drop-cons, getD-take}
+use Rattle.meaning.specs.Bytes.{Text, each}
+use Rattle.text.proofs.Writing.{Writing, writing-starts, writing-room, writing-more, written-place, written-whole}
+use Rattle.parse.specs.Places.{partAt}
+use Rattle.parse.proofs.Parts.{part-length}
+use Rattle.matcher.specs.declared.types.Matcher.{Matcher}
+use Rattle.matchers.specs.Numbers.{matcherAt}
+use Rattle.pair.specs.Pairs.{specOf, fieldBytes}
+use Rattle.pair.specs.Asking.{Ready, Put}
+use Rattle.hits.specs.Hits.{fieldStart, fieldSize, hitBytes}
+use Rattle.hits.specs.Noting.{PlacesIn, TableReady, Good, AllGood}
+
+drop-all : (l : List ℕ) (i : ℕ) → length l ≤ i → drop i l ≡ []
+drop-all l i h = drop-of-length-le l h
+
+-- what the hits from number k on give is still to be written
+abbrev pub HitsWritten : (ℕ → Text) → List ℕ → ℕ → Text → ℕ → ℕ → Text → ℕ → Type 0
+HitsWritten f hits noted first at k out end = Writing first at (each (take noted hits) f) out end (each (drop k (take noted hits)) f)
+
+module _ (f : ℕ → Text) (hits : List ℕ) (noted : ℕ) (all : noted ≤ length hits) (first : Text) (at : ℕ) where
+  pub hits-begin : at + length (each (take noted hits) f) ≤ length first → HitsWritten f hits noted first at 0 first at
+  hits-begin h = writing-starts first at (each (take noted hits) f) h
+
+  long : length (take noted hits) ≡ noted
+  long = simp length-take (omega arith)
+
+  module _ (k : ℕ) (out : Text) (end : ℕ) (w : HitsWritten f hits noted first at k out end) where
+    next : k < noted → each (drop k (take noted hits)) f ≡ f (getD hits k 0) ++ each (drop (k + 1) (take noted hits)) f
+    next h =
+        rw (add-one k)
+        (ap (λ (l : List ℕ). each l f) (drop-cons (take noted hits) k 0 (omega (arith, long)))
+        ∙ ap (λ (x : ℕ). f x ++ each (drop (suc k) (take noted hits)) f) (getD-take noted hits k 0 h))
+
+    pub hits-room : k < noted → (x : ℕ) → x ≡ getD hits k 0 → (t : Text) → t ≡ f x → end + length t ≤ length out
+    hits-room h x e t q = rw (q, e) (writing-room first at (each (take noted hits) f) out end (each (drop k (take noted hits)) f) w (f (getD hits k 0)) (each (drop (k + 1) (take noted hits)) f) (next h))
+
+    pub hits-next : k < noted → (x : ℕ) → x ≡ getD hits k 0 → (t : Text) → t ≡ f x → (o : Text) (e : ℕ) → Put out end t o e → HitsWritten f hits noted first at (k + 1) o e
+    hits-next h x e t et o end₂ q =
+        let p : Put out end (f (getD hits k 0)) o end₂ = rw (et, e) at q in
+        writing-more first at (each (take noted hits) f) out end (each (drop k (take noted hits)) f) w (f (getD hits k 0)) (each (drop (k + 1) (take noted hits)) f) (next h) o end₂ (p .puts) (p .ends)
+
+    pub hits-end : noted ≤ k → Put first at (each (take noted hits) f) out end
+    hits-end h =
+        let e : each (drop k (take noted hits)) f ≡ [] = ap (λ (l : List ℕ). each l f) (drop-all (take noted hits) k (omega (arith, long))) in
+        record {
+          puts = written-whole first at (each (take noted hits) f) out end (each (drop k (take noted hits)) f) w e;
+          ends = written-place first at (each (take noted hits) f) out end (each (drop k (take noted hits)) f) w e;
+        }
+
+-- ---- one hit
+
+module _ (places : List ℕ) where
+  pub field-start : (field : ℕ) → (field ≡ 0 → ⊥) → (x : ℕ) → x ≡ getD places (2 * (field - 1)) 0 → x ≡ fieldStart places field
+  field-start zero d x e = absurd (d refl)
+  field-start (suc j) d x e = let h : suc j - 1 ≡ j = omega arith in rw h at e
+
+  pub field-size : (field : ℕ) → (field ≡ 0 → ⊥) → (x : ℕ) → x ≡ getD places (2 * (field - 1) + 1) 0 → x ≡ fieldSize places field
+  field-size zero d x e = absurd (d refl)
+  field-size (suc j) d x e = let h : suc j - 1 ≡ j = omega arith in rw h at e
+
+field-inside : (items : Text) (places : List ℕ) (n : ℕ) → PlacesIn items places n → (field : ℕ) → field ≤ n → fieldStart places field + fieldSize places field ≤ length items
+field-inside items places n p zero h = omega arith
+field-inside items places n p (suc j) h = p .within j (omega arith)
+
+field-short : (items : Text) (places : List ℕ) (n : ℕ) → PlacesIn items places n → (field : ℕ) → field ≤ n → fieldSize places field ≤ 4096
+field-short items places n p zero h = omega arith
+field-short items places n p (suc j) h = p .short j (omega arith)
+
+module _ (back : Bool) (specs : Text) (table : List ℕ) (group : ℕ) (t : TableReady specs table group) (items : Text) (places : List ℕ) (n : ℕ) (p : PlacesIn items places n) (hit : ℕ) (g : Good back specs table group items places n hit) where
+  pub hit-field-few : hit % 2048 ≤ 1024
+  hit-field-few = omega (arith, g .item-there, p .few)
+
+  pub hit-spec-few : hit / 2048 ≤ 256
+  hit-spec-few = omega (arith, g .spec-there, t .few)
+
+  pub hit-places : 2048 ≤ length places
+  hit-places = p .room
+
+  pub hit-matcher : 10 * (hit / 2048) + 10 ≤ length table
+  hit-matcher = omega (arith, g .spec-there, t .few, t .room)
+
+  module _ (start size : ℕ) (es : start ≡ fieldStart places (hit % 2048)) (ez : size ≡ fieldSize places (hit % 2048)) where
+    pub hit-inside : start + size ≤ length items
+    hit-inside = rw (es, ez) (field-inside items places n p (hit % 2048) (g .item-there))
+
+    module _ (name : Text) (en : name ≡ partAt items start size) where
+      name-long : length name ≡ size
+      name-long = ap length en ∙ part-length items start size hit-inside
+
+      pub hit-short : length name ≤ 4096
+      hit-short = omega (arith, name-long, ez, field-short items places n p (hit % 2048) (g .item-there))
+
+      pub hit-empty : hit % 2048 ≡ 0 → length name ≡ 0
+      hit-empty z = name-long ∙ ez ∙ rw z
+
+      module _ (m : Matcher) (em : m ≡ matcherAt table (hit / 2048)) where
+        pub hit-ready : Ready specs m
+        hit-ready = rw em (t .ready (hit / 2048) (g .spec-there))
+
+        same : fieldBytes back (hit / 2048) (hit % 2048) name (specOf specs m) ≡ hitBytes back specs table items places hit
+        same = rw (en, em, es, ez)
+
+        pub hit-some : 0 < length (fieldBytes back (hit / 2048) (hit % 2048) name (specOf specs m))
+        hit-some = rw same (g .gives)
+
+        pub hit-room : (d : Text) (at : ℕ) → at + length (hitBytes back specs table items places hit) ≤ length d → at + length (fieldBytes back (hit / 2048) (hit % 2048) name (specOf specs m)) ≤ length d
+        hit-room d at h = rw same h
+
+        pub hit-put : (d : Text) (at : ℕ) (o : Text) (e : ℕ) → Put d at (fieldBytes back (hit / 2048) (hit % 2048) name (specOf specs m)) o e → Put d at (hitBytes back specs table items places hit) o e
+        hit-put d at o e q = rw same at q
+
+pub good-at : (back : Bool) (specs : Text) (table : List ℕ) (group : ℕ) (items : Text) (places : List ℕ) (n : ℕ) (hits : List ℕ) (noted : ℕ) → AllGood back specs table group items places n hits noted → (k : ℕ) → k < noted → (x : ℕ) → x ≡ getD hits k 0 → Good back specs table group items places n x
+good-at back specs table group items places n hits noted a k h x e = rw e (a .each-good k h)
+
+-- ---- the hits of a listing
+
+module _ (back : Bool) (specs : Text) (table : List ℕ) (items : Text) (places : List ℕ) (hits : List ℕ) (noted : ℕ) (all : noted ≤ length hits) (first : Text) (at k : ℕ) (out : Text) (end : ℕ) (w : HitsWritten (hitBytes back specs table items places) hits noted first at k out end) (h : k < noted) (x : ℕ) (e : x ≡ getD hits k 0) where
+  pub rows-next : (o : Text) (n : ℕ) → Put out end (hitBytes back specs table items places x) o n → HitsWritten (hitBytes back specs table items places) hits noted first at (k + 1) o n
+  rows-next o n q = hits-next (hitBytes back specs table items places) hits noted all first at k out end w h x e (hitBytes back specs table items places x) refl o n q

@@ -1,0 +1,86 @@
+-- The pairs of a spec and a name that give a row, and what they give. A hit is a number: which spec it is of, and the item field of its row.
+use Prim.Native.Nat.{ℕ, zero, suc, _+_, _*_, _/_, _%_}
+use mathlib.Core.Bool.{Bool, cond}
+use mathlib.Core.List.{List, [], _∷_, _++_}
+use lib.Dec.{eqb}
+use lib.ListN.{length, getD}
+use Rattle.meaning.specs.Bytes.{Text}
+use Rattle.meaning.specs.Spec.{Spec}
+use Rattle.parse.specs.Places.{partAt}
+use Rattle.matchers.specs.Numbers.{matcherAt}
+use Rattle.filter.specs.Filters.{nameAt}
+use Rattle.pair.specs.Pairs.{specOf, itemBytes, objectBytes, fieldBytes}
+
+-- what each number from i on gives, k of them
+abbrev pub across : {B : Type 0} → (ℕ → List B) → ℕ → ℕ → List B
+across f i zero = []
+across f i (suc k) = f i ++ across f (suc i) k
+
+-- spec number i of a table
+abbrev pub specAt : Text → List ℕ → ℕ → Spec
+specAt specs table i = specOf specs (matcherAt table i)
+
+-- what name j gives under spec i, which is s, unless its source is gone
+abbrev pub pairBytes : Bool → (Text → Bool) → Spec → Text → List ℕ → ℕ → ℕ → Text
+pairBytes back gone s items places i j = itemBytes back gone i j (nameAt items places j) s
+
+-- what the first n names give
+abbrev pub namesBytes : Bool → (Text → Bool) → Spec → Text → List ℕ → ℕ → ℕ → Text
+namesBytes back gone s items places n i = across (pairBytes back gone s items places i) 0 n
+
+-- what they give under spec i of a table
+abbrev pub specBytes : Bool → (Text → Bool) → Text → List ℕ → Text → List ℕ → ℕ → ℕ → Text
+specBytes back gone specs table items places n i = namesBytes back gone (specAt specs table i) items places n i
+
+-- what they give under the first `group` specs
+abbrev pub groupBytes : Bool → (Text → Bool) → Text → List ℕ → ℕ → Text → List ℕ → ℕ → Text
+groupBytes back gone specs table group items places n = across (specBytes back gone specs table items places n) 0 group
+
+-- what these specs give as object sources
+abbrev pub objectsBytes : Text → List ℕ → ℕ → Text
+objectsBytes specs table group = across (λ i. objectBytes i (specAt specs table i)) 0 group
+
+-- the hit of spec i with an item field
+abbrev pub hitOf : ℕ → ℕ → ℕ
+hitOf i field = 2048 * i + field
+
+-- a hit that takes so many bytes, unless it takes none
+abbrev pub hitIf : ℕ → ℕ → List ℕ
+hitIf size hit = cond (eqb size 0) [] (hit ∷ [])
+
+-- the hit of name j under spec i, which is s
+abbrev pub pairHits : Bool → (Text → Bool) → Spec → Text → List ℕ → ℕ → ℕ → List ℕ
+pairHits back gone s items places i j = hitIf (length (pairBytes back gone s items places i j)) (hitOf i (j + 1))
+
+-- those of the first n names
+abbrev pub namesHits : Bool → (Text → Bool) → Spec → Text → List ℕ → ℕ → ℕ → List ℕ
+namesHits back gone s items places n i = across (pairHits back gone s items places i) 0 n
+
+-- those under spec i of a table
+abbrev pub specHits : Bool → (Text → Bool) → Text → List ℕ → Text → List ℕ → ℕ → ℕ → List ℕ
+specHits back gone specs table items places n i = namesHits back gone (specAt specs table i) items places n i
+
+-- and under the first `group` specs
+abbrev pub groupHits : Bool → (Text → Bool) → Text → List ℕ → ℕ → Text → List ℕ → ℕ → List ℕ
+groupHits back gone specs table group items places n = across (specHits back gone specs table items places n) 0 group
+
+-- those of these specs as object sources
+abbrev pub objectHits : Text → List ℕ → ℕ → List ℕ
+objectHits specs table group = across (λ i. hitIf (length (objectBytes i (specAt specs table i))) (hitOf i 0)) 0 group
+
+-- where the name of an item field begins, and how many bytes it has; no item has none
+abbrev pub fieldStart : List ℕ → ℕ → ℕ
+fieldStart places zero = 0
+fieldStart places (suc j) = getD places (2 * j) 0
+
+abbrev pub fieldSize : List ℕ → ℕ → ℕ
+fieldSize places zero = 0
+fieldSize places (suc j) = getD places (2 * j + 1) 0
+
+-- the name of an item field
+abbrev pub fieldName : Text → List ℕ → ℕ → Text
+fieldName items places field = partAt items (fieldStart places field) (fieldSize places field)
+
+-- what a hit gives
+abbrev pub hitBytes : Bool → Text → List ℕ → Text → List ℕ → ℕ → Text
+hitBytes back specs table items places hit = fieldBytes back (hit / 2048) (hit % 2048) (fieldName items places (hit % 2048)) (specAt specs table (hit / 2048))

@@ -1,0 +1,53 @@
+-- What the search for hits and the writing of their rows ask and answer.
+use Prim.Native.Nat.{ℕ, _+_, _*_, _/_, _%_, _≤_, _<_}
+use mathlib.Core.Path.{_≡_}
+use mathlib.Core.Bool.{Bool, false}
+use mathlib.Core.List.{List, _++_}
+use mathlib.Core.Option.{none}
+use lib.ListN.{length, take, getD}
+use Rattle.meaning.specs.Bytes.{Text}
+use Rattle.meaning.specs.Limits.{nameBytes, listBytes, itemCount, specCount}
+use Rattle.matcher.specs.declared.types.Matcher.{Matcher}
+use Rattle.matchers.specs.Numbers.{matcherAt}
+use Rattle.filter.specs.declared.Filter.{Filter}
+use Rattle.filter.specs.Filters.{passes, FilterWithin}
+use Rattle.pair.specs.Pairs.{specOf, endsIn}
+use Rattle.pair.specs.Asking.{Ready}
+use Rattle.hits.specs.Hits.{hitBytes}
+
+-- the names of a list stand at the first n places, two numbers each
+pub record PlacesIn (items : Text) (places : List ℕ) (n : ℕ) : Type 0 where
+  pub few : n ≤ itemCount
+  pub small : length items ≤ listBytes
+  pub room : 2048 ≤ length places
+  pub within : (j : ℕ) → j < n → getD places (2 * j) 0 + getD places (2 * j + 1) 0 ≤ length items
+  pub short : (j : ℕ) → j < n → getD places (2 * j + 1) 0 ≤ nameBytes
+
+-- the first n matchers of a table are those of specs
+pub record TableReady (specs : Text) (table : List ℕ) (n : ℕ) : Type 0 where
+  pub few : n ≤ specCount
+  pub room : 2560 ≤ length table
+  pub ready : (i : ℕ) → i < n → Ready specs (matcherAt table i)
+
+-- what a filter stops has no row under the spec of a matcher, forward or in reverse
+pub record Stops (back : Bool) (specs : Text) (m : Matcher) (f : Filter) : Type 0 where
+  pub stops : (name : Text) → length name ≤ nameBytes → passes f name ≡ false → endsIn back (specOf specs m) name ≡ none
+  pub within : FilterWithin f
+
+-- t was noted after the first count hits, if there was room for all of it
+pub record Adds (hits : List ℕ) (count : ℕ) (t after : List ℕ) (next : ℕ) : Type 0 where
+  pub long : length after ≡ length hits
+  pub adds : next ≤ length hits → take next after ≡ take count hits ++ t
+  pub before : next ≤ length hits → count ≤ length hits
+  pub fits : count + length t ≤ length hits → next ≡ count + length t
+
+-- a hit is of a spec and an item field that are there, and gives something
+pub record Good (back : Bool) (specs : Text) (table : List ℕ) (group : ℕ) (items : Text) (places : List ℕ) (n hit : ℕ) : Type 0 where
+  pub spec-there : hit / 2048 < group
+  pub item-there : hit % 2048 ≤ n
+  pub gives : 0 < length (hitBytes back specs table items places hit)
+
+-- so are the first `noted` of some hits
+pub record AllGood (back : Bool) (specs : Text) (table : List ℕ) (group : ℕ) (items : Text) (places : List ℕ) (n : ℕ) (hits : List ℕ) (noted : ℕ) : Type 0 where
+  pub all : noted ≤ length hits
+  pub each-good : (k : ℕ) → k < noted → Good back specs table group items places n (getD hits k 0)

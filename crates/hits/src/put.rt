@@ -1,0 +1,106 @@
+// Writing the rows of hits.
+ghost use mathlib.Core.Path.{_≡_};
+ghost use Prim.Native.Nat.{_+_, _≤_, _<_};
+ghost use lib.ListN.{length, take};
+ghost use Rattle.meaning.specs.Bytes.{each};
+ghost use Rattle.pair.specs.Asking.{Put};
+ghost use Rattle.hits.specs.Hits.{fieldStart, fieldSize, hitBytes};
+ghost use Rattle.hits.specs.Noting.{PlacesIn, TableReady, Good, AllGood};
+use super::found::part;
+use super::found::wide;
+use matchers::matcher_at;
+use pair::put_field;
+
+// A hit that was noted.
+fn wider(hit: u32) -> usize
+    ensures { λ r. ⌜ r ≡ hit ⌝ }
+{
+    hit as usize
+}
+
+// Where the name of an item field begins.
+fn start_of(places: &[u16], field: usize) -> usize
+    requires { ⌜ (field ≤ 1024) × (2048 ≤ length (now places)) ⌝ }
+    ensures { λ r. ⌜ r ≡ fieldStart (now (places .entry)) field ⌝ }
+{
+    if field == 0 {
+        return 0;
+    }
+    let j = field - 1;
+    wide(places[2 * j])
+}
+
+// How many bytes the name of an item field has; no item has none.
+fn size_of(places: &[u16], field: usize) -> usize
+    requires { ⌜ (field ≤ 1024) × (2048 ≤ length (now places)) ⌝ }
+    ensures { λ r. ⌜ r ≡ fieldSize (now (places .entry)) field ⌝ }
+{
+    if field == 0 {
+        return 0;
+    }
+    let j = field - 1;
+    wide(places[2 * j + 1])
+}
+
+// Writes what a hit gives, and answers the place after it.
+fn put_hit(
+    out: &mut [u8],
+    at: usize,
+    back: bool,
+    specs: &[u8],
+    table: &[u16],
+    group: usize,
+    items: &[u8],
+    places: &[u16],
+    n: usize,
+    hit: usize,
+) -> usize
+    requires { ⌜ TableReady (now specs) (now table) group × PlacesIn (now items) (now places) n × Good back (now specs) (now table) group (now items) (now places) n hit
+        × (at + length (hitBytes back (now specs) (now table) (now items) (now places) hit) ≤ length (now out)) ⌝ }
+    ensures { λ r. ⌜ Put (now (out .entry)) at (hitBytes back (now (specs .entry)) (now (table .entry)) (now (items .entry)) (now (places .entry)) hit) (now (out .exit)) r ⌝ }
+{
+    let i = hit / 2048;
+    let field = hit % 2048;
+    let m = matcher_at(table, i);
+    let start = start_of(places, field);
+    let size = size_of(places, field);
+    put_field(out, at, back, specs, m, i, field, part(items, start, size))
+}
+
+// Writes what the first `noted` of some hits give, and answers the place after it.
+pub fn put_hits(
+    out: &mut [u8],
+    at: usize,
+    back: bool,
+    specs: &[u8],
+    table: &[u16],
+    group: usize,
+    items: &[u8],
+    places: &[u16],
+    n: usize,
+    hits: &[u32],
+    noted: usize,
+) -> usize
+    requires { ⌜ TableReady (now specs) (now table) group × PlacesIn (now items) (now places) n × AllGood back (now specs) (now table) group (now items) (now places) n (now hits) noted
+        × (at + length (each (take noted (now hits)) (hitBytes back (now specs) (now table) (now items) (now places))) ≤ length (now out)) ⌝ }
+    ensures { λ r. ⌜ Put (now (out .entry)) at (each (take noted (now (hits .entry))) (hitBytes back (now (specs .entry)) (now (table .entry)) (now (items .entry)) (now (places .entry)))) (now (out .exit)) r ⌝ }
+{
+    let mut end = at;
+    let mut k = 0;
+    while k < noted {
+        end = put_hit(
+            out,
+            end,
+            back,
+            specs,
+            table,
+            group,
+            items,
+            places,
+            n,
+            wider(hits[k]),
+        );
+        k += 1;
+    }
+    end
+}

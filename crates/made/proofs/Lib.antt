@@ -1,0 +1,2 @@
+-- `Writes`: the texts that a match makes, measured and written.
+pub mod Writes

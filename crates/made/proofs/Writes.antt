@@ -1,0 +1,205 @@
+-- The texts that a match makes: how many bytes they have, and writing them. Assumes nothing.
+use Prim.Native.Nat.{ℕ, _+_, _-_, _≤_}
+use native.Mathlib.Omega.{arith}
+use native.Mathlib.Nat.{add-zero}
+use mathlib.Core.Path.{_≡_, refl, sym, ap, _∙_}
+use mathlib.Core.List.{[], _++_, append-nil}
+use mir.Val.{Fits}
+use mir.Syntax.{w64}
+use lib.ListN.{length, length-append}
+use Rattle.meaning.specs.Bytes.{Text, bytes, orEmpty, lower}
+use Rattle.meaning.specs.Limits.{listBytes, nameBytes}
+use Rattle.text.specs.Splice.{splice}
+use Rattle.text.proofs.Splices.{splice-none}
+use Rattle.text.proofs.Pairs.{pair-second}
+use Rattle.text.proofs.Lowers.{lower-length}
+use Rattle.text.proofs.Writing.{Writing, writing-starts, writing-room, writing-more, written-place, written-whole}
+use Rattle.parse.specs.declared.types.Side.{Side}
+use Rattle.parse.specs.declared.types.Side.the-variants as side
+use Rattle.parse.specs.Places.{partAt, Within}
+use Rattle.parse.proofs.Parts.{part-length}
+use Rattle.refspec.specs.Instructions.{sideText}
+use Rattle.matcher.specs.declared.types.Lead.{Lead}
+use Rattle.matcher.specs.declared.types.Lead.the-variants as lead
+use Rattle.matcher.specs.declared.types.Made.{Made}
+use Rattle.matcher.specs.declared.types.Made.the-variants as made
+use Rattle.matcher.specs.Matching.{ledText, madeMeant, MadeWithin, FilledWithin}
+use Rattle.made.specs.Leads.{leadSize}
+
+-- ---- how many bytes
+
+-- a text that is led has what leads and its own bytes
+led-length : (l : Lead) (t : Text) → length (ledText l t) ≡ leadSize l + length t
+led-length lead.AsIs t = omega arith
+led-length lead.Refs t = omega arith
+led-length lead.Heads t = omega arith
+led-length lead.HeadsDigits t = omega (arith, lower-length t)
+led-length lead.Digits t = omega (arith, lower-length t)
+
+-- few bytes lead
+lead-short : (l : Lead) → leadSize l ≤ 11
+lead-short lead.AsIs = omega arith
+lead-short lead.Refs = omega arith
+lead-short lead.Heads = omega arith
+lead-short lead.HeadsDigits = omega arith
+lead-short lead.Digits = omega arith
+
+-- a side has not many more bytes than the list
+side-short : (specs : Text) (s : Side) → Within (length specs) s → length (sideText specs s) ≤ length specs + 4
+side-short specs side.Absent w = omega arith
+side-short specs (side.Part at n) w = omega (arith, part-length specs at n w)
+side-short specs side.Head w = omega arith
+
+module _ (specs : Text) (l : Lead) (s : Side) (u : Text) (eu : u ≡ sideText specs s) (n : ℕ) (en : n ≡ leadSize l) where
+  -- a side that is led has so many
+  pub led-size : n + length u ≡ length (ledText l (sideText specs s))
+  led-size = rw (eu, en) (sym (led-length l (sideText specs s)))
+
+  module _ (w : Within (length specs) s) (few : length specs ≤ listBytes) where
+    -- which are not many
+    pub led-most : n + length u ≤ 200000
+    led-most = omega (arith, ap length eu, lead-short l, side-short specs s w)
+
+    -- so a machine's number holds them
+    pub led-fits : Fits w64 (n + length u)
+    led-fits = omega (arith, ap length eu, lead-short l, side-short specs s w)
+
+-- the arms of a `match` on what a match makes
+module _ (specs name : Text) (m : Made) where
+  module _ (is : m ≡ made.Name) where
+    pub name-size : length name ≡ length (orEmpty (madeMeant specs name m))
+    name-size = rw is
+
+    pub name-text : name ≡ orEmpty (madeMeant specs name m)
+    name-text = rw is
+
+  pub nothing-text : m ≡ made.Absent → [] ≡ orEmpty (madeMeant specs name m)
+  nothing-text is = rw is
+
+  module _ (l : Lead) (s : Side) (is : m ≡ made.Led l s) where
+    -- a side that is led stands within the list
+    pub made-led-within : (len nameLen : ℕ) → MadeWithin len nameLen m → Within len s
+    made-led-within len nameLen h = rw is at h
+
+    pub made-led-size : (r : ℕ) → r ≡ length (ledText l (sideText specs s)) → r ≡ length (orEmpty (madeMeant specs name m))
+    made-led-size r h = rw is h
+
+    pub made-led-text : ledText l (sideText specs s) ≡ orEmpty (madeMeant specs name m)
+    made-led-text = rw is
+
+  module _ (start a from b end c : ℕ) (is : m ≡ made.Filled start a from b end c) where
+    -- so does a pattern that is filled
+    pub made-filled-within : (len nameLen : ℕ) → MadeWithin len nameLen m → FilledWithin len nameLen start a from b end c
+    made-filled-within len nameLen h = rw is at h
+
+    pub made-filled-text : partAt specs start a ++ (partAt name from b ++ partAt specs end c) ≡ orEmpty (madeMeant specs name m)
+    made-filled-text = rw is
+
+    module _ (w : MadeWithin (length specs) (length name) m) where
+      inside : FilledWithin (length specs) (length name) start a from b end c
+      inside = made-filled-within (length specs) (length name) w
+
+      pub start-few : length specs ≤ listBytes → a ≤ 65535
+      start-few h = omega (arith, inside .start-within)
+
+      pub capture-few : length name ≤ nameBytes → b ≤ 4096
+      capture-few h = omega (arith, inside .capture-within)
+
+      pub end-few : length specs ≤ listBytes → c ≤ 65535
+      end-few h = omega (arith, inside .end-within)
+
+      -- it has the bytes of its three parts
+      pub made-filled-size : (r : ℕ) → r ≡ a + (b + c) → r ≡ length (orEmpty (madeMeant specs name m))
+      made-filled-size r e =
+          let p = part-length specs start a (inside .start-within) in
+          let q = part-length name from b (inside .capture-within) in
+          let t = part-length specs end c (inside .end-within) in
+          let n : length (partAt specs start a ++ (partAt name from b ++ partAt specs end c)) ≡ a + (b + c) =
+          omega (arith, length-append (partAt specs start a) (partAt name from b ++ partAt specs end c), length-append (partAt name from b) (partAt specs end c)) in
+          e ∙ sym n ∙ ap length made-filled-text
+
+-- ---- writing
+
+-- one text is another: its room, its bytes and its end are
+module _ (w v : Text) (at : ℕ) where
+  pub room-as : (d : Text) → at + length v ≤ length d → w ≡ v → at + length w ≤ length d
+  room-as d h e = rw e h
+
+  pub put-as : (d o : Text) → o ≡ splice d at w → w ≡ v → o ≡ splice d at v
+  put-as d o h e = rw e at h
+
+  pub end-as : (r : ℕ) → r ≡ at + length w → w ≡ v → r ≡ at + length v
+  end-as r h e = rw e at h
+
+-- nothing is written
+pub none-put : (d : Text) (at : ℕ) (v : Text) → [] ≡ v → d ≡ splice d at v
+none-put d at v e = rw (← e) (sym (splice-none d at))
+
+pub none-end : (at : ℕ) (v : Text) → [] ≡ v → at ≡ at + length v
+none-end at v e = rw (← e) (sym (add-zero at))
+
+-- the second of two texts in lower case has room
+pub lower-second : (d : Text) (at : ℕ) (a b : Text) → at + length (a ++ lower b) ≤ length d → (o : Text) (i : ℕ) → o ≡ splice d at a → i ≡ at + length a → i + length b ≤ length o
+lower-second d at a b h o i eo ei = rw (← lower-length b) (pair-second d at a (lower b) h o i eo ei)
+
+-- a text in lower case has room where it has
+pub lower-room : (d : Text) (at : ℕ) (t v : Text) → at + length v ≤ length d → lower t ≡ v → at + length t ≤ length d
+lower-room d at t v h e = omega (arith, lower-length t, ap length e)
+
+-- the arms of a `match` on how a text is led
+module _ (l : Lead) (t : Text) where
+  pub led-as-is : l ≡ lead.AsIs → t ≡ ledText l t
+  led-as-is is = rw is
+
+  pub led-refs : l ≡ lead.Refs → bytes "refs/" ++ t ≡ ledText l t
+  led-refs is = rw is
+
+  pub led-heads : l ≡ lead.Heads → bytes "refs/heads/" ++ t ≡ ledText l t
+  led-heads is = rw is
+
+  pub led-heads-digits : l ≡ lead.HeadsDigits → bytes "refs/heads/" ++ lower t ≡ ledText l t
+  led-heads-digits is = rw is
+
+  pub led-digits : l ≡ lead.Digits → lower t ≡ ledText l t
+  led-digits is = rw is
+
+-- a call gave the text of the side
+pub led-side : (specs : Text) (l : Lead) (s : Side) (u : Text) → u ≡ sideText specs s → ledText l u ≡ ledText l (sideText specs s)
+led-side specs l s u e = ap (ledText l) e
+
+-- three texts one after the other
+module _ (d : Text) (at : ℕ) (a b c : Text) (fits : at + length (a ++ (b ++ c)) ≤ length d) where
+  start : Writing d at (a ++ (b ++ c)) d at (a ++ (b ++ c))
+  start = writing-starts d at (a ++ (b ++ c)) fits
+
+  -- the first has room
+  pub first-room : at + length a ≤ length d
+  first-room = writing-room d at (a ++ (b ++ c)) d at (a ++ (b ++ c)) start a (b ++ c) refl
+
+  module _ (d₁ : Text) (i : ℕ) (p₁ : d₁ ≡ splice d at a) (e₁ : i ≡ at + length a) where
+    first-put : Writing d at (a ++ (b ++ c)) d₁ i (b ++ c)
+    first-put = writing-more d at (a ++ (b ++ c)) d at (a ++ (b ++ c)) start a (b ++ c) refl d₁ i p₁ e₁
+
+    -- the second has room after it
+    pub second-room : i + length b ≤ length d₁
+    second-room = writing-room d at (a ++ (b ++ c)) d₁ i (b ++ c) first-put b c refl
+
+    module _ (d₂ : Text) (j : ℕ) (p₂ : d₂ ≡ splice d₁ i b) (e₂ : j ≡ i + length b) where
+      second-put : Writing d at (a ++ (b ++ c)) d₂ j c
+      second-put = writing-more d at (a ++ (b ++ c)) d₁ i (b ++ c) first-put b c refl d₂ j p₂ e₂
+
+      -- the third after that
+      pub third-room : j + length c ≤ length d₂
+      third-room = writing-room d at (a ++ (b ++ c)) d₂ j c second-put c [] (sym (append-nil c))
+
+      module _ (d₃ : Text) (r : ℕ) (p₃ : d₃ ≡ splice d₂ j c) (e₃ : r ≡ j + length c) where
+        third-put : Writing d at (a ++ (b ++ c)) d₃ r []
+        third-put = writing-more d at (a ++ (b ++ c)) d₂ j c second-put c [] (sym (append-nil c)) d₃ r p₃ e₃
+
+        -- and all three are the text
+        pub three-put : d₃ ≡ splice d at (a ++ (b ++ c))
+        three-put = written-whole d at (a ++ (b ++ c)) d₃ r [] third-put refl
+
+        -- which ends there
+        pub three-end : r ≡ at + length (a ++ (b ++ c))
+        three-end = written-place d at (a ++ (b ++ c)) d₃ r [] third-put refl

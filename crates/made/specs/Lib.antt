@@ -1,0 +1,2 @@
+-- `Leads`: how many bytes lead a literal text.
+pub mod Leads

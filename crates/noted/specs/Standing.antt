@@ -1,0 +1,44 @@
+-- What stands in a table for the specs of a group.
+use Prim.Native.Nat.{ℕ, _≤_, _<_}
+use mathlib.Core.Path.{_≡_}
+use mathlib.Core.Bool.{true, false}
+use mathlib.Core.List.{List}
+use lib.ListN.{length, getD}
+use Rattle.meaning.specs.Bytes.{Text}
+use Rattle.meaning.specs.Limits.{listBytes, specCount}
+use Rattle.meaning.specs.Spec.{Spec, isNegative}
+use Rattle.parse.specs.declared.types.RefSpec.{RefSpec}
+use Rattle.parse.specs.declared.types.Mode.the-variants.{Normal}
+use Rattle.parse.specs.declared.types.Side.the-variants.{Absent}
+use Rattle.parse.specs.Places.{specMeant, SidesWithin}
+use Rattle.matcher.specs.declared.types.Matcher.{Matcher}
+use Rattle.matcher.specs.Matching.{Matches}
+use Rattle.matchers.specs.Numbers.{matcherAt, noMatcher}
+use Rattle.list.specs.Group.{groupMeant}
+use Rattle.exclude.specs.Negatives.{Negatives}
+
+-- m stands for the spec s: it is the matcher of s, or that of a spec without rows where s is negative
+pub record Stands (specs : Text) (s : Spec) (m : Matcher) : Type 0 where
+  pub negative : isNegative (s .mode) ≡ true → m ≡ noMatcher
+  pub positive : isNegative (s .mode) ≡ false → Matches specs s m
+
+-- one spec was noted as number i of a table: the others are kept
+pub record NotedAt (specs : Text) (s : Spec) (before : List ℕ) (i : ℕ) (after : List ℕ) : Type 0 where
+  pub size : length after ≡ length before
+  pub kept : (j : ℕ) → (j ≡ i → ⊥) → matcherAt after j ≡ matcherAt before j
+  pub there : Stands specs s (matcherAt after i)
+
+-- the record that a table is read as outside its bounds
+abbrev pub blank : RefSpec
+blank = record { mode = Normal; src = Absent; dst = Absent }
+
+-- records that can be noted
+pub record Notable (specs : Text) (records : List RefSpec) : Type 0 where
+  pub specs-short : length specs ≤ listBytes
+  pub few : length records ≤ specCount
+  pub sides : (i : ℕ) → i < length records → SidesWithin (length specs) (getD records i blank)
+
+-- the specs of a group were noted in two tables
+pub record NotedAll (specs : Text) (records : List RefSpec) (table negatives : List ℕ) (count : ℕ) : Type 0 where
+  pub stand : (i : ℕ) → i < length records → Stands specs (specMeant specs (getD records i blank)) (matcherAt table i)
+  pub exclude : Negatives specs (groupMeant specs records) negatives count

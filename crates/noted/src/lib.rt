@@ -1,0 +1,77 @@
+// The specs of a group noted once for all names: their matchers as flat numbers, and the negatives apart.
+ghost use mathlib.Core.Path.{_≡_};
+ghost use Prim.Native.Nat.{_≤_, _<_};
+ghost use lib.ListN.{length, take};
+ghost use Rattle.meaning.specs.Limits.{listBytes};
+ghost use Rattle.parse.specs.Places.{specMeant, SidesWithin};
+ghost use Rattle.matcher.specs.Matching.{MatcherWithin};
+ghost use Rattle.exclude.specs.Making.{Added};
+ghost use Rattle.noted.specs.Standing.{Stands, NotedAt, Notable, NotedAll};
+
+pub mod read;
+
+use exclude::put_if_negative;
+use list::table::spec_at;
+use matcher::matcher;
+use matcher::types::Matcher;
+use matchers::no_matcher;
+use matchers::put_matcher;
+use parse::types::RefSpec;
+use parse::types::is_negative;
+
+// What stands for a spec in a table.
+fn matcher_for(specs: &[u8], r: RefSpec) -> Matcher
+    requires { ⌜ SidesWithin (length (now specs)) r × (length (now specs) ≤ listBytes) ⌝ }
+    ensures { λ m. ⌜ Stands (now (specs .entry)) (specMeant (now (specs .entry)) r) m × MatcherWithin listBytes m ⌝ }
+{
+    let mode = r.mode;
+    if is_negative(mode) {
+        return no_matcher();
+    }
+    matcher(specs, r)
+}
+
+// Notes a spec as number i, and among the k negatives if it is one; how many negatives there are then.
+pub fn note(
+    specs: &[u8],
+    r: RefSpec,
+    i: usize,
+    table: &mut [u16],
+    negatives: &mut [u16],
+    k: usize,
+) -> usize
+    requires { ⌜ SidesWithin (length (now specs)) r × (length (now specs) ≤ listBytes) × (i < 256) × (k < 256) × (2560 ≤ length (now table)) × (1024 ≤ length (now negatives)) ⌝ }
+    ensures { λ n. ⌜ NotedAt (now (specs .entry)) (specMeant (now (specs .entry)) r) (now (table .entry)) i (now (table .exit)) × Added (now (specs .entry)) (specMeant (now (specs .entry)) r) (now (negatives .entry)) k (now (negatives .exit)) n ⌝ }
+{
+    put_matcher(table, i, matcher_for(specs, r));
+    put_if_negative(specs, r, k, negatives)
+}
+
+// Notes the specs of a table of records that is lent, each handed to `note`; how many negatives there are.
+fn note_specs(specs: &[u8], records: &[RefSpec], table: &mut [u16], negatives: &mut [u16]) -> usize
+    requires { ⌜ Notable (now specs) (now records) × (2560 ≤ length (now table)) × (1024 ≤ length (now negatives)) ⌝ }
+    ensures { λ k. ⌜ NotedAll (now (specs .entry)) (now (records .entry)) (now (table .exit)) (now (negatives .exit)) k ⌝ }
+{
+    let mut count = 0;
+    let mut i = 0;
+    while i < records.len() {
+        let r = spec_at(records, i);
+        count = note(specs, r, i, table, negatives, count);
+        i += 1;
+    }
+    count
+}
+
+// Notes the specs of a group, the first n records of a table, which are lent; how many negatives there are.
+pub fn note_group(
+    specs: &[u8],
+    records: [RefSpec; 256],
+    n: usize,
+    table: &mut [u16],
+    negatives: &mut [u16],
+) -> usize
+    requires { ⌜ (n ≤ 256) × Notable (now specs) (take n records) × (2560 ≤ length (now table)) × (1024 ≤ length (now negatives)) ⌝ }
+    ensures { λ k. ⌜ NotedAll (now (specs .entry)) (take n records) (now (table .exit)) (now (negatives .exit)) k ⌝ }
+{
+    note_specs(specs, &records[..n], table, negatives)
+}

@@ -1,0 +1,49 @@
+-- Whether the source of a row is gone. Assumes nothing.
+use mathlib.Core.Path.{_≡_, refl, sym, ap, _∙_}
+use mathlib.Core.Bool.{Bool, false}
+use mathlib.Core.List.{List, _++_}
+use Prim.Native.Nat.{ℕ, _+_, _-_, _≤_}
+use native.Mathlib.Omega.{arith}
+use lib.ListN.{length, take, drop}
+use lib.Seq.{take-append-seam}
+use Rattle.meaning.specs.Bytes.{Text, orEmpty}
+use Rattle.text.specs.Splice.{splice}
+use Rattle.text.proofs.Splices.{splice-start}
+use Rattle.parse.specs.Places.{partAt}
+use Rattle.parse.proofs.Parts.{part-of}
+use Rattle.matcher.specs.declared.types.Made.{Made}
+use Rattle.matcher.specs.declared.types.Made.the-variants.{Name, Filled}
+use Rattle.matcher.specs.Matching.{madeMeant, MadeWithin, FilledWithin}
+use Rattle.exclude.specs.Negatives.{excludedBy}
+
+-- a text at the front of a buffer is read back
+module _ (d t o : Text) (n : ℕ) (size : n ≡ length t) (e : o ≡ splice d 0 t) where
+  front : take n o ≡ t
+  front = rw (size, e, splice-start d t) (take-append-seam t _)
+
+  pub front-long : n ≡ length (take n o)
+  front-long = size ∙ sym (ap length front)
+
+  pub front-asked : (r : Bool) (specs : Text) (table : List ℕ) (count : ℕ) → r ≡ excludedBy specs table count (take n o) → r ≡ excludedBy specs table count t
+  front-asked r specs table count h = h ∙ ap (excludedBy specs table count) front
+
+-- the source of a row
+module _ (specs name : Text) (table : List ℕ) (count : ℕ) (source : Made) where
+  pub none-asked : count ≡ 0 → false ≡ excludedBy specs table count (orEmpty (madeMeant specs name source))
+  none-asked e = rw e
+
+  pub name-asked : source ≡ Name → (r : Bool) → r ≡ excludedBy specs table count name → r ≡ excludedBy specs table count (orEmpty (madeMeant specs name source))
+  name-asked e r h = rw e h
+
+  pub filled-asked : (start before from len end after : ℕ) → source ≡ Filled start before from len end after
+      → (r : Bool) → r ≡ excludedBy specs table count (partAt specs start before ++ (partAt name from len ++ partAt specs end after)) → r ≡ excludedBy specs table count (orEmpty (madeMeant specs name source))
+  filled-asked start before from len end after e r h = rw e h
+
+-- the pieces of a pattern as they are lent
+pub pieces-asked : (specs name : Text) (table : List ℕ) (count start before from len end after : ℕ) (r : Bool)
+    → r ≡ excludedBy specs table count (take (start + before - start) (drop start specs) ++ (take (from + len - from) (drop from name) ++ take (end + after - end) (drop end specs)))
+    → r ≡ excludedBy specs table count (partAt specs start before ++ (partAt name from len ++ partAt specs end after))
+pieces-asked specs name table count start before from len end after r h = rw (part-of specs start before, part-of name from len, part-of specs end after) at h
+
+pub filled-within : (source : Made) (start before from len end after : ℕ) → source ≡ Filled start before from len end after → (n k : ℕ) → MadeWithin n k source → FilledWithin n k start before from len end after
+filled-within source start before from len end after e n k w = rw e at w

@@ -1,0 +1,16 @@
+-- No item is an object, any other a name.
+use mathlib.Core.Path.{refl}
+use native.Mathlib.Omega.{arith}
+use Rattle.pair.proofs.Fields.{kind-of-name}
+use borrow.Author.Needs.{needs}
+use Rattle.pair.proofs.kind_of.Statement.{statement}
+use Rattle.pair.proofs.kind_of.Tie as tie
+
+returns : tie.Need-returns
+returns c = search needs
+
+returns-2 : tie.Need-returns-2
+returns-2 c = (search kind-of-name, omega arith)
+
+pub kind-of-spec : {M : Type 1} → statement M
+kind-of-spec = tie.close (tie.spec returns returns-2)

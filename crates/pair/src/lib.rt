@@ -1,0 +1,189 @@
+// One spec on one name: how many bytes its row takes, unless a negative removes it, and writing a row that is known to stand.
+ghost use mathlib.Core.Path.{_≡_};
+ghost use mathlib.Core.List.{[]};
+ghost use Prim.Native.Nat.{_+_, _≤_, _<_};
+ghost use lib.ListN.{length};
+ghost use Rattle.meaning.specs.Bytes.{orEmpty};
+ghost use Rattle.meaning.specs.Limits.{itemCount, specCount, nameBytes};
+ghost use Rattle.meaning.specs.Rows.{rowBytes};
+ghost use Rattle.matcher.specs.Matching.{madeMeant, MadeWithin};
+ghost use Rattle.exclude.specs.Negatives.{excludedBy};
+ghost use Rattle.row.specs.Rows.{Lent, rowMeant};
+ghost use Rattle.pair.specs.Pairs.{specOf, itemBytes, objectBytes, kindOf, fieldPlaces, fieldBytes, keptBytes};
+ghost use Rattle.pair.specs.Asking.{Askable, Ready, EndsTold, FieldTold, Put};
+
+mod gone;
+
+use gone::removed;
+use matcher::forward;
+use matcher::known_forward;
+use matcher::known_reverse;
+use matcher::object;
+use matcher::reverse;
+use matcher::types::Ends;
+use matcher::types::Made;
+use matcher::types::Matcher;
+use row::Row;
+use row::put_row;
+use row::row_size;
+
+// The ends that a spec makes of a name, forward or in reverse.
+fn ends(back: bool, specs: &[u8], m: Matcher, name: &[u8]) -> Ends
+    requires { ⌜ Ready (now specs) m ⌝ }
+    ensures { λ r. ⌜ EndsTold back (now (specs .entry)) (now (name .entry)) m r ⌝ }
+{
+    if back {
+        return reverse(specs, m, name);
+    }
+    forward(specs, m, name)
+}
+
+// How many bytes the row of item j under spec i takes, unless a negative removes it.
+fn kept_size(
+    specs: &[u8],
+    name: &[u8],
+    i: usize,
+    j: usize,
+    source: Made,
+    destination: Made,
+    negatives: &[u16],
+    count: usize,
+) -> usize
+    requires { ⌜ Lent (now specs) (now name) × Askable (now specs) (now negatives) count × (i ≤ specCount) × (j < itemCount) × MadeWithin (length (now specs)) (length (now name)) source × MadeWithin (length (now specs)) (length (now name)) destination × (length (orEmpty (madeMeant (now specs) (now name) source)) ≤ 8192) ⌝ }
+    ensures { λ r. ⌜ (r ≡ length (keptBytes (excludedBy (now (specs .entry)) (now (negatives .entry)) count) i j (now (specs .entry)) (now (name .entry)) source destination)) × (r ≤ 500000) ⌝ }
+{
+    if removed(specs, name, source, negatives, count) {
+        return 0;
+    }
+    let row = Row {
+        item: j + 1,
+        spec: i,
+        kind: 0,
+        source,
+        destination,
+    };
+    row_size(specs, name, row)
+}
+
+// How many bytes item j takes under spec i.
+pub fn item_size(
+    back: bool,
+    specs: &[u8],
+    m: Matcher,
+    i: usize,
+    j: usize,
+    name: &[u8],
+    negatives: &[u16],
+    count: usize,
+) -> usize
+    requires { ⌜ Ready (now specs) m × Askable (now specs) (now negatives) count × (i ≤ specCount) × (j < itemCount) × (length (now name) ≤ nameBytes) ⌝ }
+    ensures { λ r. ⌜ (r ≡ length (itemBytes back (excludedBy (now (specs .entry)) (now (negatives .entry)) count) i j (now (name .entry)) (specOf (now (specs .entry)) m))) × (r ≤ 500000) ⌝ }
+{
+    match ends(back, specs, m, name) {
+        Ends::Nothing => 0,
+        Ends::Row {
+            source,
+            destination,
+        } => kept_size(specs, name, i, j, source, destination, negatives, count),
+    }
+}
+
+// How many bytes the row of an object source of spec i takes that has these texts.
+fn made_object_size(specs: &[u8], i: usize, source: Made, destination: Made) -> usize
+    requires { ⌜ Lent (now specs) [] × (i ≤ specCount) × MadeWithin (length (now specs)) 0 source × MadeWithin (length (now specs)) 0 destination ⌝ }
+    ensures { λ r. ⌜ (r ≡ length (rowBytes (rowMeant (now (specs .entry)) [] (fieldPlaces i 0 source destination)))) × (r ≤ 500000) ⌝ }
+{
+    let row = Row {
+        item: 0,
+        spec: i,
+        kind: 1,
+        source,
+        destination,
+    };
+    row_size(specs, &specs[..0], row)
+}
+
+// How many bytes the row of spec i takes as an object source; any other spec has none.
+pub fn object_size(specs: &[u8], m: Matcher, i: usize) -> usize
+    requires { ⌜ Ready (now specs) m × (i ≤ specCount) ⌝ }
+    ensures { λ r. ⌜ (r ≡ length (objectBytes i (specOf (now (specs .entry)) m))) × (r ≤ 500000) ⌝ }
+{
+    match object(specs, m) {
+        Ends::Nothing => 0,
+        Ends::Row {
+            source,
+            destination,
+        } => made_object_size(specs, i, source, destination),
+    }
+}
+
+// The ends of the row with this item field, of a name of n bytes that has one.
+fn field_ends(back: bool, specs: &[u8], m: Matcher, field: usize, n: usize) -> Ends
+    requires { ⌜ Ready (now specs) m × (n ≤ nameBytes) × (field ≡ 0 → n ≡ 0) ⌝ }
+    ensures { λ r. ⌜ FieldTold back (now (specs .entry)) m field n r ⌝ }
+{
+    if field == 0 {
+        return object(specs, m);
+    }
+    if back {
+        return known_reverse(specs, m, n);
+    }
+    known_forward(specs, m, n)
+}
+
+// The source kind of a row by its item field.
+fn kind_of(field: usize) -> usize
+    ensures { λ r. ⌜ (r ≡ kindOf field) × (r ≤ 1) ⌝ }
+{
+    if field == 0 {
+        return 1;
+    }
+    0
+}
+
+// Writes the row of spec i with this item field and these texts, and answers the place after it.
+fn put_made(
+    out: &mut [u8],
+    at: usize,
+    specs: &[u8],
+    name: &[u8],
+    i: usize,
+    field: usize,
+    source: Made,
+    destination: Made,
+) -> usize
+    requires { ⌜ Lent (now specs) (now name) × (i ≤ specCount) × (field ≤ itemCount) × MadeWithin (length (now specs)) (length (now name)) source × MadeWithin (length (now specs)) (length (now name)) destination × (at + length (rowBytes (rowMeant (now specs) (now name) (fieldPlaces i field source destination))) ≤ length (now out)) ⌝ }
+    ensures { λ r. ⌜ Put (now (out .entry)) at (rowBytes (rowMeant (now (specs .entry)) (now (name .entry)) (fieldPlaces i field source destination))) (now (out .exit)) r ⌝ }
+{
+    let row = Row {
+        item: field,
+        spec: i,
+        kind: kind_of(field),
+        source,
+        destination,
+    };
+    put_row(out, at, specs, name, row)
+}
+
+// Writes the row of spec i with this item field, which there is, and answers the place after it.
+pub fn put_field(
+    out: &mut [u8],
+    at: usize,
+    back: bool,
+    specs: &[u8],
+    m: Matcher,
+    i: usize,
+    field: usize,
+    name: &[u8],
+) -> usize
+    requires { ⌜ Ready (now specs) m × (i ≤ specCount) × (field ≤ itemCount) × (length (now name) ≤ nameBytes) × (field ≡ 0 → length (now name) ≡ 0) × (0 < length (fieldBytes back i field (now name) (specOf (now specs) m))) × (at + length (fieldBytes back i field (now name) (specOf (now specs) m)) ≤ length (now out)) ⌝ }
+    ensures { λ r. ⌜ Put (now (out .entry)) at (fieldBytes back i field (now (name .entry)) (specOf (now (specs .entry)) m)) (now (out .exit)) r ⌝ }
+{
+    match field_ends(back, specs, m, field, name.len()) {
+        Ends::Nothing => at,
+        Ends::Row {
+            source,
+            destination,
+        } => put_made(out, at, specs, name, i, field, source, destination),
+    }
+}

@@ -1,0 +1,2 @@
+-- `Rows`: a row's bytes by its pieces.
+pub mod Rows

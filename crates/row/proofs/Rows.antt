@@ -1,0 +1,182 @@
+-- A row's bytes by its pieces: three numbers, the source, the destination. Assumes nothing.
+use mathlib.Core.Path.{_≡_, refl, sym, ap, _∙_}
+use mathlib.Core.Bool.{Bool, true, false}
+use mathlib.Core.List.{[], _∷_, _++_, append-assoc}
+use mathlib.Core.Option.{Option, none, some}
+use Prim.Native.Nat.{ℕ, suc, _+_, _≤_}
+use native.Mathlib.Omega.{arith}
+use native.Mathlib.Numerals.{add-one}
+use lib.ListN.{length, length-append}
+use Rattle.meaning.specs.Bytes.{Text, orEmpty}
+use Rattle.meaning.specs.Number.{numberBytes, textBytes}
+use Rattle.meaning.specs.Rows.{destinationBytes, rowBytes}
+use Rattle.text.specs.Splice.{splice}
+use Rattle.text.proofs.Pairs.{pair-first, pair-second, pair-put, pair-end}
+use mir.Val.{Fits}
+use mir.Syntax.{w64}
+use Rattle.text.proofs.Threes.{three-first, three-second, three-third, three-put, three-end}
+use Rattle.number.proofs.Bytes.{bytes-few, size-one}
+use Rattle.parse.specs.declared.types.Side.{Side}
+use Rattle.matcher.specs.declared.types.Lead.{Lead}
+use Rattle.matcher.specs.declared.types.Made.{Made}
+use Rattle.matcher.specs.declared.types.Made.the-variants.{Absent, Name, Led, Filled}
+use Rattle.matcher.specs.Matching.{madeMeant}
+use Rattle.row.specs.declared.Row.{Row}
+use Rattle.row.specs.Rows.{isAbsent, rowMeant, rowNumbers, presentBytes}
+
+-- the arms of a `match` on a text
+module _ (m : Made) where
+  pub absent-is : m ≡ Absent → true ≡ isAbsent m
+  absent-is e = rw e
+
+  pub name-is : m ≡ Name → false ≡ isAbsent m
+  name-is e = rw e
+
+  pub led-is : (l : Lead) (s : Side) → m ≡ Led l s → false ≡ isAbsent m
+  led-is l s e = rw e
+
+  pub filled-is : (a b c d f g : ℕ) → m ≡ Filled a b c d f g → false ≡ isAbsent m
+  filled-is a b c d f g e = rw e
+
+-- the bytes of a row
+pub row-pieces : (specs name : Text) (r : Row) → rowBytes (rowMeant specs name r) ≡ rowNumbers (r .item) (r .spec) (r .kind) ++ (textBytes (orEmpty (madeMeant specs name (r .source))) ++ destinationBytes (madeMeant specs name (r .destination)))
+unfolding rowBytes rowMeant
+row-pieces specs name r =
+    let a = numberBytes (r .item) in
+    let b = numberBytes (r .spec) in
+    let c = numberBytes (r .kind) in
+    let t = textBytes (orEmpty (madeMeant specs name (r .source))) ++ destinationBytes (madeMeant specs name (r .destination)) in
+    sym (append-assoc a (b ++ c) t ∙ ap (λ (x : Text). a ++ x) (append-assoc b c t))
+
+-- how many there are
+pub row-size : (specs name : Text) (r : Row) (a b c s d : ℕ) → a ≡ length (numberBytes (r .item)) → b ≡ length (numberBytes (r .spec)) → c ≡ length (numberBytes (r .kind)) → s ≡ length (textBytes (orEmpty (madeMeant specs name (r .source)))) → d ≡ length (destinationBytes (madeMeant specs name (r .destination))) → a + b + c + s + d ≡ length (rowBytes (rowMeant specs name r))
+row-size specs name r a b c s d ea eb ec es ed =
+    let A = numberBytes (r .item) in
+    let B = numberBytes (r .spec) in
+    let C = numberBytes (r .kind) in
+    let S = textBytes (orEmpty (madeMeant specs name (r .source))) in
+    let D = destinationBytes (madeMeant specs name (r .destination)) in
+    omega (arith, ap length (row-pieces specs name r), length-append (A ++ (B ++ C)) (S ++ D), length-append A (B ++ C), length-append B C, length-append S D)
+
+-- a destination that is absent
+pub destination-none : (specs name : Text) (m : Made) → isAbsent m ≡ true → destinationBytes (madeMeant specs name m) ≡ numberBytes 0
+destination-none specs name Absent e = refl
+destination-none specs name Name e = absurd (let z : _≡_ {A = ℕ} 0 1 = cc in omega arith)
+destination-none specs name (Led l s) e = absurd (let z : _≡_ {A = ℕ} 0 1 = cc in omega arith)
+destination-none specs name (Filled a b c d f g) e = absurd (let z : _≡_ {A = ℕ} 0 1 = cc in omega arith)
+
+-- one that is there
+pub destination-some : (specs name : Text) (m : Made) → isAbsent m ≡ false → destinationBytes (madeMeant specs name m) ≡ presentBytes (orEmpty (madeMeant specs name m))
+destination-some specs name Absent e = absurd (let z : _≡_ {A = ℕ} 0 1 = cc in omega arith)
+destination-some specs name Name e = refl
+destination-some specs name (Led l s) e = refl
+destination-some specs name (Filled a b c d f g) e = refl
+
+-- the sums of a row's sizes are a machine's numbers, and small
+
+number-few : (m k : ℕ) → m ≡ length (numberBytes k) → m ≤ 3
+number-few m k e = omega (arith, bytes-few k)
+
+pub text-fits : (m n k : ℕ) → m ≡ length (numberBytes k) → n ≤ 200000 → Fits w64 (m + n)
+text-fits m n k e h = omega (arith, number-few m k e)
+
+pub source-small : (m n k : ℕ) → m ≡ length (numberBytes k) → n ≤ 200000 → m + n ≤ 200003
+source-small m n k e h = omega (arith, number-few m k e)
+
+pub destination-small : (m n k : ℕ) → m ≡ length (numberBytes k) → n ≤ 200000 → m + n ≤ 200004
+destination-small m n k e h = omega (arith, number-few m k e)
+
+pub two-fit : (a b i j : ℕ) → a ≡ length (numberBytes i) → b ≡ length (numberBytes j) → Fits w64 (a + b)
+two-fit a b i j e f = omega (arith, number-few a i e, number-few b j f)
+
+module _ (a b c i j k : ℕ) (e : a ≡ length (numberBytes i)) (f : b ≡ length (numberBytes j)) (g : c ≡ length (numberBytes k)) where
+  pub three-fit : Fits w64 (a + b + c)
+  three-fit = omega (arith, number-few a i e, number-few b j f, number-few c k g)
+
+  pub four-fit : (s : ℕ) → s ≤ 200003 → Fits w64 (a + b + c + s)
+  four-fit s h = omega (arith, number-few a i e, number-few b j f, number-few c k g)
+
+  pub five-fit : (s d : ℕ) → s ≤ 200003 → d ≤ 200004 → Fits w64 (a + b + c + s + d)
+  five-fit s d h l = omega (arith, number-few a i e, number-few b j f, number-few c k g)
+
+  pub row-small : (s d : ℕ) → s ≤ 200003 → d ≤ 200004 → a + b + c + s + d ≤ 500000
+  row-small s d h l = omega (arith, number-few a i e, number-few b j f, number-few c k g)
+
+-- a destination that is there, written
+present-pieces : (t : Text) (n : ℕ) → n ≡ length t → presentBytes t ≡ numberBytes (n + 1) ++ t
+present-pieces t n e = rw (e, add-one (length t))
+
+module _ (t : Text) (n : ℕ) (size : n ≡ length t) (d : Text) (at : ℕ) (fits : at + length (presentBytes t) ≤ length d) where
+  present-both : at + length (numberBytes (n + 1) ++ t) ≤ length d
+  present-both = rw (← present-pieces t n size) fits
+
+  pub present-first : at + length (numberBytes (n + 1)) ≤ length d
+  present-first = pair-first d at (numberBytes (n + 1)) t present-both
+
+  module _ (o : Text) (i : ℕ) (eo : o ≡ splice d at (numberBytes (n + 1))) (ei : i ≡ at + length (numberBytes (n + 1))) where
+    pub present-second : i + length t ≤ length o
+    present-second = pair-second d at (numberBytes (n + 1)) t present-both o i eo ei
+
+    pub present-put : (p : Text) → p ≡ splice o i t → p ≡ splice d at (presentBytes t)
+    present-put p e = rw (present-pieces t n size) (pair-put d at (numberBytes (n + 1)) t present-both o i eo ei p e)
+
+    pub present-end : (j : ℕ) → j ≡ i + length t → j ≡ at + length (presentBytes t)
+    present-end j e = rw (present-pieces t n size) (pair-end d at (numberBytes (n + 1)) t present-both o i eo ei j e)
+
+-- a destination, measured and written
+module _ (specs name : Text) (m : Made) (b : Bool) (eb : b ≡ isAbsent m) where
+  pub none-size : b ≡ true → 1 ≡ length (destinationBytes (madeMeant specs name m))
+  none-size t = rw (destination-none specs name m (sym eb ∙ t), size-one 0 (omega arith))
+
+  pub some-size : b ≡ false → (n : ℕ) → n ≡ length (orEmpty (madeMeant specs name m)) → (k : ℕ) → k ≡ length (numberBytes (n + 1)) → k + n ≡ length (destinationBytes (madeMeant specs name m))
+  some-size t n e k f = rw (destination-some specs name m (sym eb ∙ t), present-pieces (orEmpty (madeMeant specs name m)) n e) (omega (arith, length-append (numberBytes (n + 1)) (orEmpty (madeMeant specs name m))))
+
+  module _ (d : Text) (at : ℕ) (fits : at + length (destinationBytes (madeMeant specs name m)) ≤ length d) where
+    pub none-room : b ≡ true → at + length (numberBytes 0) ≤ length d
+    none-room t = rw (destination-none specs name m (sym eb ∙ t)) at fits
+
+    pub none-put : b ≡ true → (o : Text) → o ≡ splice d at (numberBytes 0) → o ≡ splice d at (destinationBytes (madeMeant specs name m))
+    none-put t o e = rw (destination-none specs name m (sym eb ∙ t)) e
+
+    pub none-end : b ≡ true → (i : ℕ) → i ≡ at + length (numberBytes 0) → i ≡ at + length (destinationBytes (madeMeant specs name m))
+    none-end t i e = rw (destination-none specs name m (sym eb ∙ t)) e
+
+    pub some-room : b ≡ false → at + length (presentBytes (orEmpty (madeMeant specs name m))) ≤ length d
+    some-room t = rw (destination-some specs name m (sym eb ∙ t)) at fits
+
+    pub some-put : b ≡ false → (o : Text) → o ≡ splice d at (presentBytes (orEmpty (madeMeant specs name m))) → o ≡ splice d at (destinationBytes (madeMeant specs name m))
+    some-put t o e = rw (destination-some specs name m (sym eb ∙ t)) e
+
+    pub some-end : b ≡ false → (i : ℕ) → i ≡ at + length (presentBytes (orEmpty (madeMeant specs name m))) → i ≡ at + length (destinationBytes (madeMeant specs name m))
+    some-end t i e = rw (destination-some specs name m (sym eb ∙ t)) e
+
+-- a row, written
+module _ (specs name : Text) (r : Row) (d : Text) (at : ℕ) (fits : at + length (rowBytes (rowMeant specs name r)) ≤ length d) where
+  abbrev numbers : Text
+  numbers = rowNumbers (r .item) (r .spec) (r .kind)
+
+  abbrev source : Text
+  source = textBytes (orEmpty (madeMeant specs name (r .source)))
+
+  abbrev destination : Text
+  destination = destinationBytes (madeMeant specs name (r .destination))
+
+  all : at + length (numbers ++ (source ++ destination)) ≤ length d
+  all = rw (row-pieces specs name r) at fits
+
+  pub row-first : at + length (rowNumbers (r .item) (r .spec) (r .kind)) ≤ length d
+  row-first = three-first d at numbers source destination all
+
+  module _ (o : Text) (i : ℕ) (eo : o ≡ splice d at (rowNumbers (r .item) (r .spec) (r .kind))) (ei : i ≡ at + length (rowNumbers (r .item) (r .spec) (r .kind))) where
+    pub row-second : i + length (textBytes (orEmpty (madeMeant specs name (r .source)))) ≤ length o
+    row-second = three-second d at numbers source destination all o i eo ei
+
+    module _ (p : Text) (j : ℕ) (ep : p ≡ splice o i (textBytes (orEmpty (madeMeant specs name (r .source))))) (ej : j ≡ i + length (textBytes (orEmpty (madeMeant specs name (r .source))))) where
+      pub row-third : j + length (destinationBytes (madeMeant specs name (r .destination))) ≤ length p
+      row-third = three-third d at numbers source destination all o i eo ei p j ep ej
+
+      pub row-put : (q : Text) → q ≡ splice p j (destinationBytes (madeMeant specs name (r .destination))) → q ≡ splice d at (rowBytes (rowMeant specs name r))
+      row-put q e = rw (row-pieces specs name r) (three-put d at numbers source destination all o i eo ei p j ep ej q e)
+
+      pub row-end : (k : ℕ) → k ≡ j + length (destinationBytes (madeMeant specs name (r .destination))) → k ≡ at + length (rowBytes (rowMeant specs name r))
+      row-end k e = rw (row-pieces specs name r) (three-end d at numbers source destination all o i eo ei p j ep ej k e)

@@ -1,0 +1,52 @@
+-- A row of a listing with its texts as places, and the row that it means.
+use Prim.Native.Nat.{ℕ, suc, _≤_}
+use mathlib.Core.Bool.{Bool, true, false}
+use mathlib.Core.List.{_++_}
+use lib.ListN.{length}
+use Rattle.meaning.specs.Bytes.{Text, orEmpty}
+use Rattle.meaning.specs.Limits.{listBytes, nameBytes, itemCount, specCount}
+use Rattle.meaning.specs.Number.{numberBytes}
+use Rattle.meaning.specs.Rows as meaning
+use Rattle.matcher.specs.declared.types.Made.{Made}
+use Rattle.matcher.specs.declared.types.Made.the-variants.{Absent, Name, Led, Filled}
+use Rattle.matcher.specs.Matching.{madeMeant, MadeWithin}
+use Rattle.row.specs.declared.Row.{Row}
+
+-- a text is not there
+abbrev pub isAbsent : Made → Bool
+isAbsent Absent = true
+isAbsent Name = false
+isAbsent (Led lead side) = false
+isAbsent (Filled start start-len from len end end-len) = false
+
+-- the sizes of a spec list and of a name that were read
+pub record Lent (specs name : Text) : Type 0 where
+  pub specs-short : length specs ≤ listBytes
+  pub name-short : length name ≤ nameBytes
+
+-- the numbers of a row are small, and its texts stand within the spec list and the name
+pub record RowWithin (len nameLen : ℕ) (r : Row) : Type 0 where
+  pub item-small : r .item ≤ itemCount
+  pub spec-small : r .spec ≤ specCount
+  pub kind-small : r .kind ≤ 1
+  pub source-within : MadeWithin len nameLen (r .source)
+  pub destination-within : MadeWithin len nameLen (r .destination)
+
+-- the row that is meant
+unfoldable pub rowMeant : Text → Text → Row → meaning.Row
+rowMeant s name r =
+    record {
+      item = r .item;
+      spec = r .spec;
+      kind = r .kind;
+      source = orEmpty (madeMeant s name (r .source));
+      destination = madeMeant s name (r .destination);
+    }
+
+-- the numbers that a row begins with
+abbrev pub rowNumbers : ℕ → ℕ → ℕ → Text
+rowNumbers item spec kind = numberBytes item ++ (numberBytes spec ++ numberBytes kind)
+
+-- a destination that is there: its length plus 1, then its bytes
+abbrev pub presentBytes : Text → Text
+presentBytes t = numberBytes (suc (length t)) ++ t

@@ -1,0 +1,132 @@
+// A row of a listing with its texts as places: how many bytes it has, and writing it.
+ghost use mathlib.Core.Path.{_≡_};
+ghost use Prim.Native.Nat.{_+_, _≤_};
+ghost use lib.ListN.{length};
+ghost use Rattle.meaning.specs.Bytes.{orEmpty};
+ghost use Rattle.meaning.specs.Number.{textBytes};
+ghost use Rattle.meaning.specs.Rows.{destinationBytes, rowBytes};
+ghost use Rattle.text.specs.Splice.{splice};
+ghost use Rattle.matcher.specs.Matching.{madeMeant, MadeWithin};
+ghost use Rattle.row.specs.Rows.{Lent, RowWithin, isAbsent, rowMeant, rowNumbers, presentBytes};
+use made::made_size;
+use made::put_made;
+use matcher::types::Made;
+
+// A row: item number plus 1 or 0, spec number, source kind, and the texts of both ends.
+pub struct Row {
+    pub item: usize,
+    pub spec: usize,
+    pub kind: usize,
+    pub source: Made,
+    pub destination: Made,
+}
+
+// There is no text.
+fn is_absent(m: Made) -> bool
+    ensures { λ r. ⌜ r ≡ isAbsent m ⌝ }
+{
+    match m {
+        Made::Absent => true,
+        Made::Name => false,
+        Made::Led(_, _) => false,
+        Made::Filled {
+            start: _,
+            start_len: _,
+            from: _,
+            len: _,
+            end: _,
+            end_len: _,
+        } => false,
+    }
+}
+
+// How many bytes a source takes, its length before it.
+fn source_size(specs: &[u8], name: &[u8], source: Made) -> usize
+    requires { ⌜ Lent (now specs) (now name) × MadeWithin (length (now specs)) (length (now name)) source ⌝ }
+    ensures { λ r. ⌜ (r ≡ length (textBytes (orEmpty (madeMeant (now (specs .entry)) (now (name .entry)) source)))) × (r ≤ 200003) ⌝ }
+{
+    let n = made_size(specs, name, source);
+    number::size(n) + n
+}
+
+// How many bytes a destination takes: its length plus 1 before it, or 0 alone where there is none.
+fn destination_size(specs: &[u8], name: &[u8], destination: Made) -> usize
+    requires { ⌜ Lent (now specs) (now name) × MadeWithin (length (now specs)) (length (now name)) destination ⌝ }
+    ensures { λ r. ⌜ (r ≡ length (destinationBytes (madeMeant (now (specs .entry)) (now (name .entry)) destination))) × (r ≤ 200004) ⌝ }
+{
+    if is_absent(destination) {
+        return 1;
+    }
+    let n = made_size(specs, name, destination);
+    number::size(n + 1) + n
+}
+
+// How many bytes a row has.
+pub fn row_size(specs: &[u8], name: &[u8], row: Row) -> usize
+    requires { ⌜ Lent (now specs) (now name) × RowWithin (length (now specs)) (length (now name)) row ⌝ }
+    ensures { λ r. ⌜ (r ≡ length (rowBytes (rowMeant (now (specs .entry)) (now (name .entry)) row))) × (r ≤ 500000) ⌝ }
+{
+    let item = row.item;
+    let spec = row.spec;
+    let kind = row.kind;
+    let source = row.source;
+    let destination = row.destination;
+    let numbers = number::size(item) + number::size(spec) + number::size(kind);
+    numbers + source_size(specs, name, source) + destination_size(specs, name, destination)
+}
+
+// Writes the three numbers that a row begins with, and answers the place after them.
+fn put_numbers(out: &mut [u8], at: usize, item: usize, spec: usize, kind: usize) -> usize
+    requires { ⌜ (item ≤ 1024) × (spec ≤ 1024) × (kind ≤ 1024) × (at + length (rowNumbers item spec kind) ≤ length (now out)) ⌝ }
+    ensures { λ r. ⌜ (now (out .exit) ≡ splice (now (out .entry)) at (rowNumbers item spec kind)) × (r ≡ at + length (rowNumbers item spec kind)) ⌝ }
+{
+    let i = number::put(out, at, item);
+    let j = number::put(out, i, spec);
+    number::put(out, j, kind)
+}
+
+// Writes a source, its length before it, and answers the place after it.
+fn put_source(out: &mut [u8], at: usize, specs: &[u8], name: &[u8], source: Made) -> usize
+    requires { ⌜ Lent (now specs) (now name) × MadeWithin (length (now specs)) (length (now name)) source × (at + length (textBytes (orEmpty (madeMeant (now specs) (now name) source))) ≤ length (now out)) ⌝ }
+    ensures { λ r. ⌜ (now (out .exit) ≡ splice (now (out .entry)) at (textBytes (orEmpty (madeMeant (now (specs .entry)) (now (name .entry)) source)))) × (r ≡ at + length (textBytes (orEmpty (madeMeant (now (specs .entry)) (now (name .entry)) source)))) ⌝ }
+{
+    let n = made_size(specs, name, source);
+    let i = number::put(out, at, n);
+    put_made(out, i, specs, name, source)
+}
+
+// Writes a destination that is there, its length plus 1 before it, and answers the place after it.
+fn put_present(out: &mut [u8], at: usize, specs: &[u8], name: &[u8], destination: Made) -> usize
+    requires { ⌜ Lent (now specs) (now name) × MadeWithin (length (now specs)) (length (now name)) destination × (at + length (presentBytes (orEmpty (madeMeant (now specs) (now name) destination))) ≤ length (now out)) ⌝ }
+    ensures { λ r. ⌜ (now (out .exit) ≡ splice (now (out .entry)) at (presentBytes (orEmpty (madeMeant (now (specs .entry)) (now (name .entry)) destination)))) × (r ≡ at + length (presentBytes (orEmpty (madeMeant (now (specs .entry)) (now (name .entry)) destination)))) ⌝ }
+{
+    let n = made_size(specs, name, destination);
+    let i = number::put(out, at, n + 1);
+    put_made(out, i, specs, name, destination)
+}
+
+// Writes a destination, and answers the place after it.
+fn put_destination(out: &mut [u8], at: usize, specs: &[u8], name: &[u8], destination: Made) -> usize
+    requires { ⌜ Lent (now specs) (now name) × MadeWithin (length (now specs)) (length (now name)) destination × (at + length (destinationBytes (madeMeant (now specs) (now name) destination)) ≤ length (now out)) ⌝ }
+    ensures { λ r. ⌜ (now (out .exit) ≡ splice (now (out .entry)) at (destinationBytes (madeMeant (now (specs .entry)) (now (name .entry)) destination))) × (r ≡ at + length (destinationBytes (madeMeant (now (specs .entry)) (now (name .entry)) destination))) ⌝ }
+{
+    if is_absent(destination) {
+        return number::put(out, at, 0);
+    }
+    put_present(out, at, specs, name, destination)
+}
+
+// Writes a row, and answers the place after it.
+pub fn put_row(out: &mut [u8], at: usize, specs: &[u8], name: &[u8], row: Row) -> usize
+    requires { ⌜ Lent (now specs) (now name) × RowWithin (length (now specs)) (length (now name)) row × (at + length (rowBytes (rowMeant (now specs) (now name) row)) ≤ length (now out)) ⌝ }
+    ensures { λ r. ⌜ (now (out .exit) ≡ splice (now (out .entry)) at (rowBytes (rowMeant (now (specs .entry)) (now (name .entry)) row))) × (r ≡ at + length (rowBytes (rowMeant (now (specs .entry)) (now (name .entry)) row))) ⌝ }
+{
+    let item = row.item;
+    let spec = row.spec;
+    let kind = row.kind;
+    let source = row.source;
+    let destination = row.destination;
+    let i = put_numbers(out, at, item, spec, kind);
+    let j = put_source(out, i, specs, name, source);
+    put_destination(out, j, specs, name, destination)
+}
