@@ -7,9 +7,9 @@ use mir.Val.{Fits}
 use mir.Syntax.{w64}
 use lib.ListN.{length, getD, drop, length-append}
 use Rattle.meaning.specs.Bytes.{Text}
-use Rattle.text.specs.Splice.{splice}
+use Rattle.buffer.specs.Splice.{splice}
 use Rattle.text.proofs.Rests.{rest-cons, rest-end}
-use Rattle.text.proofs.Writing.{Writing, writing-starts, writing-room, writing-more, written-place, written-whole}
+use Rattle.buffer.proofs.Writing.{Writing, writing-starts, writing-room, writing-more, written-place, written-whole}
 use Rattle.conflicts.specs.Indexed.{sourceAt, sourcesAt}
 
 module _ (s : Text) (l : List ℕ) (i : ℕ) where

@@ -9,8 +9,8 @@ use lib.ListN.{length, take, drop, length-append}
 use Rattle.meaning.specs.Bytes.{Text}
 use Rattle.meaning.specs.Number.{numberBytes, textBytes}
 use Rattle.meaning.specs.Validation.{sourceBytes}
-use Rattle.text.specs.Splice.{splice}
-use Rattle.text.proofs.Writing.{Writing, writing-starts, writing-room, writing-more, written-place, written-whole}
+use Rattle.buffer.specs.Splice.{splice}
+use Rattle.buffer.proofs.Writing.{Writing, writing-starts, writing-room, writing-more, written-place, written-whole}
 use Rattle.number.proofs.Bytes.{bytes-few}
 use Rattle.number.proofs.Texts.{text-size, number-room, text-room, text-put, text-ends}
 use Rattle.parse.specs.Places.{partAt}

@@ -16,9 +16,9 @@ use Rattle.meaning.specs.Validation.{differ, rowsOnto, twoDiffer, inConflict, f
 use Rattle.promises.proofs.Laws.{in-any, keep-in}
 use Rattle.promises.proofs.Conflicts.{found-two}
 use Rattle.promises.proofs.Sources.{seen-in, two-listed}
-use Rattle.text.specs.Splice.{splice}
-use Rattle.text.proofs.Splices.{splice-none}
-use Rattle.text.proofs.Writing.{Writing, writing-starts, writing-room, writing-more, written-place, written-whole}
+use Rattle.buffer.specs.Splice.{splice}
+use Rattle.buffer.proofs.Splices.{splice-none}
+use Rattle.buffer.proofs.Writing.{Writing, writing-starts, writing-room, writing-more, written-place, written-whole}
 use Rattle.number.proofs.Bytes.{bytes-few}
 use Rattle.parse.specs.Places.{partAt}
 use Rattle.order.specs.declared.fields.RowFields.{RowFields}

@@ -17,10 +17,10 @@ use Rattle.meaning.specs.Number.{numberBytes, textBytes}
 use Rattle.meaning.specs.Rows.{Row}
 use Rattle.meaning.specs.Validation.{listed, destinationOf, isText, onto, rowsOnto, inConflict, Conflict, conflictOn, conflicts, sourceBytes, conflictBytes}
 use Rattle.promises.proofs.Reading.{number-long}
-use Rattle.text.specs.Splice.{splice}
-use Rattle.text.proofs.Splices.{splice-none}
+use Rattle.buffer.specs.Splice.{splice}
+use Rattle.buffer.proofs.Splices.{splice-none}
 use Rattle.text.proofs.Rests.{rest-cons, rest-end}
-use Rattle.text.proofs.Writing.{Writing, writing-starts, writing-room, writing-more, written-whole}
+use Rattle.buffer.proofs.Writing.{Writing, writing-starts, writing-room, writing-more, written-whole}
 use Rattle.order.specs.declared.key.Key.the-variants.{Destination}
 use Rattle.order.specs.Sorting.{insertBy, sortBy, Sorted, runOf, heads, Ascending}
 use Rattle.order.specs.Keys.{rowAt, sameAt, notAfter}

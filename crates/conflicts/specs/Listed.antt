@@ -9,7 +9,7 @@ use Rattle.meaning.specs.Bytes.{Text, each}
 use Rattle.meaning.specs.Spec.{Answer, accepted, refused}
 use Rattle.meaning.specs.Rows.{Row, readRows}
 use Rattle.meaning.specs.Validation.{inConflict, conflictOn, conflicts, conflictBytes}
-use Rattle.text.specs.Splice.{splice}
+use Rattle.buffer.specs.Splice.{splice}
 use Rattle.parse.specs.declared.types.Side.{Side}
 use Rattle.parse.specs.declared.types.Side.the-variants.{Absent, Part, Head}
 

@@ -2,7 +2,7 @@
 ghost use mathlib.Core.Path.{_≡_};
 ghost use Prim.Native.Nat.{_+_, _*_, _≤_, _<_};
 ghost use lib.ListN.{length};
-ghost use Rattle.text.specs.Splice.{splice};
+ghost use Rattle.buffer.specs.Splice.{splice};
 ghost use Rattle.meaning.specs.Number.{textBytes};
 ghost use Rattle.conflicts.specs.Indexed.{destinationAt, OneRun, runBytes, headAt, listedAt, sourcesAt, firstsAt};
 use super::sources::heads_size;

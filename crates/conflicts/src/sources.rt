@@ -2,7 +2,7 @@
 ghost use mathlib.Core.Path.{_≡_};
 ghost use Prim.Native.Nat.{_+_, _≤_};
 ghost use lib.ListN.{length};
-ghost use Rattle.text.specs.Splice.{splice};
+ghost use Rattle.buffer.specs.Splice.{splice};
 ghost use Rattle.parse.specs.Places.{partAt};
 ghost use Rattle.meaning.specs.Number.{textBytes};
 ghost use Rattle.conflicts.specs.Indexed.{sourceAt, sourcesAt, Heads};
@@ -30,7 +30,7 @@ pub(crate) fn put_text(out: &mut [u8], at: usize, rows: &[u8], start: usize, len
 {
     let i = number::put(out, at, len);
     let end = start + len;
-    text::put(out, i, &rows[start..end])
+    buffer::put(out, i, &rows[start..end])
 }
 
 // How many bytes the source of the row at a place takes in a conflict.

@@ -17,7 +17,7 @@ use Rattle.meaning.specs.Lists.{readSpecs, readItems}
 use Rattle.meaning.specs.Listing.{forwardRows}
 use Rattle.meaning.specs.Entries.{_andThen_}
 use Rattle.meaning.specs.Deliveries.{decimal, rowLine, header, withinLimit, printed, parted, output, deliveries}
-use Rattle.text.specs.Splice.{splice}
+use Rattle.buffer.specs.Splice.{splice}
 use Rattle.text.proofs.Rests.{rest-part}
 use Rattle.number.specs.declared.Number.{Number}
 use Rattle.number.specs.declared.Number.the-variants.{Is, Malformed}

@@ -11,8 +11,8 @@ use lib.ListN.{length, length-append}
 use Rattle.meaning.specs.Bytes.{Text}
 use Rattle.meaning.specs.Spec.{refused}
 use Rattle.meaning.specs.Deliveries.{header, output}
-use Rattle.text.specs.Splice.{splice}
-use Rattle.text.proofs.Pairs.{pair-put, pair-end}
+use Rattle.buffer.specs.Splice.{splice}
+use Rattle.buffer.proofs.Pairs.{pair-put, pair-end}
 use Rattle.deliver.specs.Printed.{rowsIn, linesOf, printedRows}
 
 -- the sum fits a machine's number

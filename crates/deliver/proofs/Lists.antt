@@ -17,7 +17,7 @@ use Rattle.meaning.specs.Entries.{matchLhs}
 use Rattle.meaning.specs.Deliveries.{header, withinLimit, printed, output}
 use Rattle.promises.proofs.Members.{group-count}
 use Rattle.promises.proofs.ReadBack.{forward-sound, forward-back}
-use Rattle.text.specs.Splice.{splice}
+use Rattle.buffer.specs.Splice.{splice}
 use Rattle.list.proofs.Refusals.{specs-refusal, items-refusal}
 use Rattle.deliver.specs.Printed.{Prints, rowsOf, rowsIn, linesOf, printedRows, Listed}
 use Rattle.deliver.proofs.Longer.{rows-long}

@@ -7,7 +7,7 @@ use lib.ListN.{length, take, drop, length-take, length-drop}
 use Rattle.meaning.specs.Bytes.{Text}
 use Rattle.meaning.specs.Limits.{programBytes}
 use Rattle.meaning.specs.Deliveries.{rowLine}
-use Rattle.text.specs.Splice.{splice}
+use Rattle.buffer.specs.Splice.{splice}
 use Rattle.parse.specs.declared.types.Side.{Side}
 use Rattle.parse.specs.declared.types.Side.the-variants.{Absent, Part, Head}
 use Rattle.parse.specs.Places.{sideMeant, isPresent, Within}

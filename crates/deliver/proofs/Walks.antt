@@ -10,8 +10,8 @@ use Rattle.meaning.specs.Bytes.{Text}
 use Rattle.meaning.specs.Limits.{specCount}
 use Rattle.meaning.specs.Rows as meaning
 use Rattle.meaning.specs.Deliveries.{rowLine}
-use Rattle.text.specs.Splice.{splice}
-use Rattle.text.proofs.Writing.{Writing, writing-starts, writing-room, writing-more, written-place, written-whole}
+use Rattle.buffer.specs.Splice.{splice}
+use Rattle.buffer.proofs.Writing.{Writing, writing-starts, writing-room, writing-more, written-place, written-whole}
 use Rattle.list.specs.declared.cursor.Cursor.{Cursor}
 use Rattle.list.specs.declared.rows.RowPlace.{RowPlace}
 use Rattle.list.specs.declared.rows.RowStep.{RowStep}

@@ -8,7 +8,7 @@ use Rattle.meaning.specs.Limits.{specCount, programBytes}
 use Rattle.meaning.specs.Spec.{Answer, accepted, refused}
 use Rattle.meaning.specs.Rows.{Row, readRows}
 use Rattle.meaning.specs.Deliveries.{rowLine, header, withinLimit, output}
-use Rattle.text.specs.Splice.{splice}
+use Rattle.buffer.specs.Splice.{splice}
 use Rattle.parse.specs.Places.{Within}
 use Rattle.list.specs.declared.rows.RowPlace.{RowPlace}
 

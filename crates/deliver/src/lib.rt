@@ -5,7 +5,7 @@ ghost use lib.ListN.{length, drop};
 ghost use Rattle.meaning.specs.Limits.{programBytes};
 ghost use Rattle.meaning.specs.Number.{readBytes};
 ghost use Rattle.meaning.specs.Deliveries.{printed, parted, output, deliveries};
-ghost use Rattle.text.specs.Splice.{splice};
+ghost use Rattle.buffer.specs.Splice.{splice};
 ghost use Rattle.deliver.specs.Printed.{Lent, Prints};
 
 mod rows;

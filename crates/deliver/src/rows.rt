@@ -4,7 +4,7 @@ ghost use Prim.Native.Nat.{_+_, _≤_};
 ghost use lib.ListN.{length};
 ghost use Rattle.meaning.specs.Limits.{programBytes};
 ghost use Rattle.meaning.specs.Deliveries.{rowLine};
-ghost use Rattle.text.specs.Splice.{splice};
+ghost use Rattle.buffer.specs.Splice.{splice};
 ghost use Rattle.list.specs.Rows.{rowMeant};
 ghost use Rattle.deliver.specs.Printed.{rowsIn, linesOf, printedRows, Prints, Listed, RowStands};
 use super::PROGRAM_BYTES;

@@ -15,7 +15,7 @@ use Rattle.promises.proofs.Laws.{same-refl}
 use Rattle.promises.proofs.Captures.{begins-is, ends-is, ends-append}
 use Rattle.text.proofs.Rests.{rest-part}
 use Rattle.text.proofs.Rows.{and-true, and-false}
-use Rattle.text.proofs.Sames.{eqb-swap, same-swap, begins-whole, same-other-length, ends-never}
+use Rattle.compare.proofs.Sames.{eqb-swap, same-swap, begins-whole, same-other-length, ends-never}
 
 -- ---- the sum of three lengths
 

@@ -180,7 +180,7 @@ fn literal_matches(specs: &[u8], at: usize, len: usize, name: &[u8]) -> bool
     ensures { λ r. ⌜ r ≡ same (partAt (now (specs .entry)) at len) (now (name .entry)) ⌝ }
 {
     let end = at + len;
-    text::same(&specs[at..end], name)
+    compare::same(&specs[at..end], name)
 }
 
 // The pattern of `len` bytes that begin at `at` matches the name.
@@ -202,7 +202,7 @@ fn matches(specs: &[u8], n: Negative, name: &[u8]) -> bool
 {
     match n {
         Negative::Nothing => false,
-        Negative::Head => text::same(b"HEAD", name),
+        Negative::Head => compare::same(b"HEAD", name),
         Negative::Literal { at, len } => literal_matches(specs, at, len, name),
         Negative::Glob { at, len, star } => glob_matches(specs, at, len, star, name),
     }

@@ -13,10 +13,10 @@ use Rattle.meaning.specs.Bytes.{Text, bytes, _and_, any, same, begins, ends}
 use Rattle.meaning.specs.Limits.{nameBytes, listBytes}
 use Rattle.meaning.specs.Prefix.{candidates}
 use Rattle.meaning.specs.Match.{miss, capture, pattern, Form}
-use Rattle.text.specs.Word.{number}
+use Rattle.eights.specs.Word.{number}
 use Rattle.promises.proofs.Laws.{same-is}
-use Rattle.text.proofs.Sames.{begins-whole, same-other-length}
-use Rattle.text.proofs.Words.{begins-number}
+use Rattle.compare.proofs.Sames.{begins-whole, same-other-length}
+use Rattle.compare.proofs.Blocks.{begins-number}
 use Rattle.parse.specs.declared.types.Side.{Side}
 use Rattle.parse.specs.declared.types.Side.the-variants as side
 use Rattle.parse.specs.Places.{partAt, Within}

@@ -52,7 +52,7 @@ fn alike(specs: &[u8], at: usize, len: usize, least: usize, most: usize) -> Filt
         return sized(least, most, false);
     }
     let from = len - 8;
-    let word = text::word::word(specs, at + from);
+    let word = eights::word(specs, at + from);
     Filter {
         least,
         most,
@@ -171,7 +171,7 @@ fn passes(f: Filter, items: &[u8], start: usize, n: usize) -> bool
         return false;
     }
     if f.worded {
-        return text::word::word(items, start + f.from) == f.word;
+        return eights::word(items, start + f.from) == f.word;
     }
     if f.framed {
         return frame_adds(n - f.least);

@@ -11,8 +11,8 @@ use Rattle.meaning.specs.Bytes.{Text, bytes}
 use Rattle.meaning.specs.Limits.{listBytes}
 use Rattle.meaning.specs.Number.{numberBytes, textBytes, recordBytes}
 use Rattle.meaning.specs.Prefix.{framed, candidates}
-use Rattle.text.specs.Splice.{splice}
-use Rattle.text.proofs.Writing.{Writing, writing-starts, writing-room, writing-more, written-place, written-whole}
+use Rattle.buffer.specs.Splice.{splice}
+use Rattle.buffer.proofs.Writing.{Writing, writing-starts, writing-room, writing-more, written-place, written-whole}
 use Rattle.number.specs.Reading.{largestNumber}
 use Rattle.number.proofs.Bytes.{bytes-few}
 use Rattle.number.proofs.Texts.{text-size}

@@ -12,7 +12,7 @@ use lib.ListN.{length, take, drop, getD}
 use Rattle.meaning.specs.Bytes.{Text, bytes, _and_, _or_, any, same, begins}
 use Rattle.meaning.specs.Prefix.{candidates}
 use Rattle.text.proofs.Rests.{rest-part}
-use Rattle.text.proofs.Sames.{eqb-swap, same-other-length}
+use Rattle.compare.proofs.Sames.{eqb-swap, same-other-length}
 use Rattle.frames.specs.Frames.{Framing, candidate, frameAt, adds, frameAdding}
 use Rattle.frames.proofs.Candidates.{six, candidate-framed, candidate-length, leading-within, trailing-within}
 

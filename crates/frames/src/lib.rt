@@ -7,7 +7,7 @@ ghost use Rattle.meaning.specs.Bytes.{_and_, any, same, begins};
 ghost use Rattle.meaning.specs.Limits.{listBytes};
 ghost use Rattle.meaning.specs.Number.{textBytes, recordBytes};
 ghost use Rattle.meaning.specs.Prefix.{candidates};
-ghost use Rattle.text.specs.Splice.{splice};
+ghost use Rattle.buffer.specs.Splice.{splice};
 ghost use Rattle.frames.specs.Frames.{Framing, frameAt, candidate, adds, frameAdding};
 
 // A frame: its leading text, how many of these bytes count, and how many bytes of `/HEAD` trail.
@@ -54,11 +54,11 @@ pub fn put_candidate(out: &mut [u8], at: usize, k: usize, name: &[u8]) -> usize
     let f = frame_of(k);
     let leading = f.0;
     let n = f.1;
-    let i = text::put(out, at, &leading[..n]);
-    let j = text::put(out, i, name);
+    let i = buffer::put(out, at, &leading[..n]);
+    let j = buffer::put(out, i, name);
     let trailing = HEAD;
     let t = f.2;
-    text::put(out, j, &trailing[..t])
+    buffer::put(out, j, &trailing[..t])
 }
 
 // How many bytes candidate number k has as a record of a prefix list.
@@ -126,13 +126,13 @@ fn has_frame(k: usize, m: usize, name: &[u8]) -> bool
     let f = frame_of(k);
     let leading = f.0;
     let n = f.1;
-    if !text::begins(name, &leading[..n]) {
+    if !compare::begins(name, &leading[..n]) {
         return false;
     }
     let rest = &name[n..];
     let trailing = HEAD;
     let u = f.2;
-    text::same(&rest[m..], &trailing[..u])
+    compare::same(&rest[m..], &trailing[..u])
 }
 
 // A name of its size is candidate number k of a partial name t, whose place in it is n. Most differ in the partial name.
@@ -140,7 +140,7 @@ fn has_pieces(k: usize, n: usize, t: &[u8], name: &[u8]) -> bool
     requires { ⌜ (k < 6) × (n ≡ length (frameAt k .leading)) × (length (now name) ≡ length (now t) + adds k) ⌝ }
     ensures { λ r. ⌜ r ≡ same (now (name .entry)) (candidate k (now (t .entry))) ⌝ }
 {
-    if !text::begins(&name[n..], t) {
+    if !compare::begins(&name[n..], t) {
         return false;
     }
     has_frame(k, t.len(), name)

@@ -8,8 +8,8 @@ use mir.Syntax.{w64}
 use lib.ListN.{length, take, drop}
 use Rattle.meaning.specs.Bytes.{Text}
 use Rattle.meaning.specs.Number.{textBytes, recordBytes}
-use Rattle.text.specs.Splice.{splice}
-use Rattle.text.proofs.Splices.{splice-none}
+use Rattle.buffer.specs.Splice.{splice}
+use Rattle.buffer.proofs.Splices.{splice-none}
 use Rattle.text.proofs.Rests.{rest-part}
 use Rattle.lines.specs.declared.Line.{Line}
 use Rattle.lines.specs.declared.Line.the-variants.{Nothing, Fetch, Push, Name, Unknown}

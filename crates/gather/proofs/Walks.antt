@@ -7,8 +7,8 @@ use lib.ListN.{length, take, drop, length-append}
 use Rattle.meaning.specs.Bytes.{Text, each}
 use Rattle.meaning.specs.Number.{textBytes, recordBytes}
 use Rattle.text.specs.Place.{firstAt}
-use Rattle.text.specs.Splice.{splice}
-use Rattle.text.proofs.Splices.{splice-none, splice-next, length-splice}
+use Rattle.buffer.specs.Splice.{splice}
+use Rattle.buffer.proofs.Splices.{splice-none, splice-next, length-splice}
 use Rattle.lines.specs.Line.{Held, heldIn}
 use Rattle.gather.specs.declared.Lists.{Lists}
 use Rattle.gather.specs.Gather.{linesOf, reasonOf, specsIn, namesIn, Gathering, unlessStopped, gather, gathered}

@@ -6,7 +6,7 @@ use lib.ListN.{length}
 use Rattle.meaning.specs.Bytes.{Text}
 use Rattle.meaning.specs.Limits.{listBytes}
 use Rattle.meaning.specs.Number.{recordBytes}
-use Rattle.text.specs.Splice.{splice}
+use Rattle.buffer.specs.Splice.{splice}
 use Rattle.lines.specs.Line.{Held}
 use Rattle.gather.specs.declared.Lists.{Lists}
 use Rattle.gather.specs.declared.Gathered.{Gathered}

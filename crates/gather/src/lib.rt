@@ -4,7 +4,7 @@ ghost use Prim.Native.Nat.{_+_, _≤_};
 ghost use lib.ListN.{length};
 ghost use Rattle.meaning.specs.Limits.{listBytes, programBytes};
 ghost use Rattle.meaning.specs.Number.{textBytes};
-ghost use Rattle.text.specs.Splice.{splice};
+ghost use Rattle.buffer.specs.Splice.{splice};
 ghost use Rattle.lines.specs.Line.{heldIn};
 ghost use Rattle.gather.specs.Gather.{roomReason, specReason, nameReason, gathered};
 ghost use Rattle.gather.specs.Growing.{stopped, Room, SpecAdds, NameAdds, LineAdds, Gathers};
@@ -92,7 +92,7 @@ fn put_text(out: &mut [u8], at: usize, t: &[u8]) -> usize
 {
     let n = t.len();
     let i = number::put(out, at, n);
-    text::put(out, i, t)
+    buffer::put(out, i, t)
 }
 
 // Nothing is added, for a reason or for none.

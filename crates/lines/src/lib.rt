@@ -43,16 +43,16 @@ pub fn classify(line: &[u8]) -> Line
     if all_blank(line) {
         return Line::Nothing;
     }
-    if text::begins(line, b"#") {
+    if compare::begins(line, b"#") {
         return Line::Nothing;
     }
-    if text::begins(line, b"fetch ") {
+    if compare::begins(line, b"fetch ") {
         return Line::Fetch(6);
     }
-    if text::begins(line, b"push ") {
+    if compare::begins(line, b"push ") {
         return Line::Push(5);
     }
-    if text::begins(line, b"name ") {
+    if compare::begins(line, b"name ") {
         return Line::Name(5);
     }
     Line::Unknown

@@ -50,7 +50,7 @@ fn object_digits(list: &[u8], at: usize, n: usize) -> bool
         return false;
     }
     let end = at + n;
-    text::all_lower_hex(&list[at..end])
+    hex::all_lower_hex(&list[at..end])
 }
 
 // Question 16: the spec number is in the list, the kind 0 or 1, an object's source 40 lower-case digits.

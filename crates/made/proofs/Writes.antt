@@ -9,11 +9,11 @@ use mir.Syntax.{w64}
 use lib.ListN.{length, length-append}
 use Rattle.meaning.specs.Bytes.{Text, bytes, orEmpty, lower}
 use Rattle.meaning.specs.Limits.{listBytes, nameBytes}
-use Rattle.text.specs.Splice.{splice}
-use Rattle.text.proofs.Splices.{splice-none}
-use Rattle.text.proofs.Pairs.{pair-second}
-use Rattle.text.proofs.Lowers.{lower-length}
-use Rattle.text.proofs.Writing.{Writing, writing-starts, writing-room, writing-more, written-place, written-whole}
+use Rattle.buffer.specs.Splice.{splice}
+use Rattle.buffer.proofs.Splices.{splice-none}
+use Rattle.buffer.proofs.Pairs.{pair-second}
+use Rattle.buffer.proofs.Lowers.{lower-length}
+use Rattle.buffer.proofs.Writing.{Writing, writing-starts, writing-room, writing-more, written-place, written-whole}
 use Rattle.parse.specs.declared.types.Side.{Side}
 use Rattle.parse.specs.declared.types.Side.the-variants as side
 use Rattle.parse.specs.Places.{partAt, Within}

@@ -5,7 +5,7 @@ ghost use Prim.Native.Nat.{_+_, _≤_};
 ghost use lib.ListN.{length};
 ghost use Rattle.meaning.specs.Bytes.{orEmpty, lower};
 ghost use Rattle.meaning.specs.Limits.{listBytes, nameBytes};
-ghost use Rattle.text.specs.Splice.{splice};
+ghost use Rattle.buffer.specs.Splice.{splice};
 ghost use Rattle.parse.specs.Places.{partAt, Within};
 ghost use Rattle.refspec.specs.Instructions.{sideText};
 ghost use Rattle.matcher.specs.Matching.{ledText, FilledWithin, madeMeant, MadeWithin};
@@ -69,7 +69,7 @@ fn put_part(out: &mut [u8], at: usize, s: &[u8], from: usize, n: usize) -> usize
     ensures { λ r. ⌜ (now (out .exit) ≡ splice (now (out .entry)) at (partAt (now (s .entry)) from n)) × (r ≡ at + length (partAt (now (s .entry)) from n)) ⌝ }
 {
     let end = from + n;
-    text::put(out, at, &s[from..end])
+    buffer::put(out, at, &s[from..end])
 }
 
 // Writes a and then b, and answers the place after them.
@@ -77,8 +77,8 @@ fn put_both(out: &mut [u8], at: usize, a: &[u8], b: &[u8]) -> usize
     requires { ⌜ at + length (now a ++ now b) ≤ length (now out) ⌝ }
     ensures { λ r. ⌜ (now (out .exit) ≡ splice (now (out .entry)) at (now (a .entry) ++ now (b .entry))) × (r ≡ at + length (now (a .entry) ++ now (b .entry))) ⌝ }
 {
-    let i = text::put(out, at, a);
-    text::put(out, i, b)
+    let i = buffer::put(out, at, a);
+    buffer::put(out, i, b)
 }
 
 // Writes a and then b in lower case, and answers the place after them.
@@ -86,8 +86,8 @@ fn put_both_lower(out: &mut [u8], at: usize, a: &[u8], b: &[u8]) -> usize
     requires { ⌜ at + length (now a ++ lower (now b)) ≤ length (now out) ⌝ }
     ensures { λ r. ⌜ (now (out .exit) ≡ splice (now (out .entry)) at (now (a .entry) ++ lower (now (b .entry)))) × (r ≡ at + length (now (a .entry) ++ lower (now (b .entry)))) ⌝ }
 {
-    let i = text::put(out, at, a);
-    text::put_lower(out, i, b)
+    let i = buffer::put(out, at, a);
+    buffer::put_lower(out, i, b)
 }
 
 // Writes a text that is led, and answers the place after it.
@@ -96,11 +96,11 @@ fn put_led_text(out: &mut [u8], at: usize, lead: Lead, t: &[u8]) -> usize
     ensures { λ r. ⌜ (now (out .exit) ≡ splice (now (out .entry)) at (ledText lead (now (t .entry)))) × (r ≡ at + length (ledText lead (now (t .entry)))) ⌝ }
 {
     match lead {
-        Lead::AsIs => text::put(out, at, t),
+        Lead::AsIs => buffer::put(out, at, t),
         Lead::Refs => put_both(out, at, b"refs/", t),
         Lead::Heads => put_both(out, at, b"refs/heads/", t),
         Lead::HeadsDigits => put_both_lower(out, at, b"refs/heads/", t),
-        Lead::Digits => text::put_lower(out, at, t),
+        Lead::Digits => buffer::put_lower(out, at, t),
     }
 }
 
@@ -144,7 +144,7 @@ pub fn put_made(out: &mut [u8], at: usize, specs: &[u8], name: &[u8], made: Made
 {
     match made {
         Made::Absent => at,
-        Made::Name => text::put(out, at, name),
+        Made::Name => buffer::put(out, at, name),
         Made::Led(lead, side) => put_led(out, at, specs, lead, side),
         Made::Filled {
             start,

@@ -13,8 +13,8 @@ use Rattle.meaning.specs.Rows.{rowListOf}
 use Rattle.meaning.specs.Buffers.{Written, MeetsOne, orZero}
 use Rattle.meaning.specs.Entries.{matchLhs, matchRhs}
 use Rattle.promises.proofs.Buffers.{meets-refused, meets-short, meets-written}
-use Rattle.text.specs.Splice.{splice}
-use Rattle.text.proofs.Splices.{splice-start}
+use Rattle.buffer.specs.Splice.{splice}
+use Rattle.buffer.proofs.Splices.{splice-start}
 use Rattle.list.specs.declared.items.Checked.{Checked}
 use Rattle.list.specs.Checked.{checked}
 use Rattle.list.specs.Places.{namesOf, PlacesOf, PlacesRead}

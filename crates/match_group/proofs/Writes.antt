@@ -6,9 +6,9 @@ use Prim.Native.Nat.{ℕ, zero, suc, _+_, _-_, _≤_, _<_}
 use native.Mathlib.Omega.{arith}
 use lib.ListN.{length, take, length-append}
 use Rattle.meaning.specs.Bytes.{Text, each}
-use Rattle.text.specs.Splice.{splice}
-use Rattle.text.proofs.Splices.{length-splice, splice-next}
-use Rattle.text.proofs.Writing.{Writing, writing-starts, writing-room, writing-more, written-place, written-whole}
+use Rattle.buffer.specs.Splice.{splice}
+use Rattle.buffer.proofs.Splices.{length-splice, splice-next}
+use Rattle.buffer.proofs.Writing.{Writing, writing-starts, writing-room, writing-more, written-place, written-whole}
 use Rattle.pair.specs.Asking.{Put}
 use Rattle.hits.specs.Hits.{across, specBytes, groupBytes, objectsBytes, specHits, groupHits, objectHits, hitBytes}
 use Rattle.hits.specs.Noting.{PlacesIn, TableReady, Adds, AllGood}

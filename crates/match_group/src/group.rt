@@ -6,7 +6,7 @@ ghost use Prim.Native.Nat.{_+_, _≤_, _<_};
 ghost use lib.ListN.{length};
 ghost use Rattle.meaning.specs.Spec.{accepted};
 ghost use Rattle.meaning.specs.Buffers.{MeetsOne};
-ghost use Rattle.text.specs.Splice.{splice};
+ghost use Rattle.buffer.specs.Splice.{splice};
 ghost use Rattle.exclude.specs.Negatives.{excludedBy};
 ghost use Rattle.pair.specs.Asking.{Askable, Put};
 ghost use Rattle.hits.specs.Hits.{specBytes, groupBytes, groupHits};

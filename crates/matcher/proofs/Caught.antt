@@ -10,8 +10,8 @@ use lib.ListN.{length, take, drop, length-drop}
 use lib.Seq.{take-take}
 use Rattle.meaning.specs.Bytes.{Text, begins, ends}
 use Rattle.meaning.specs.Match.{capture}
-use Rattle.text.proofs.Sames.{ends-never}
-use Rattle.text.proofs.Words.{begins-longer}
+use Rattle.compare.proofs.Sames.{ends-never}
+use Rattle.compare.proofs.Blocks.{begins-longer}
 use Rattle.parse.specs.Places.{partAt}
 use Rattle.parse.proofs.Parts.{part-length}
 

@@ -23,10 +23,10 @@ fn text_needle(negative: bool, t: &[u8]) -> Needle
     if negative {
         return Needle::FullName;
     }
-    if text::begins(t, b"refs/") {
+    if compare::begins(t, b"refs/") {
         return Needle::FullName;
     }
-    if text::object_id(t) {
+    if hex::object_id(t) {
         return Needle::Object;
     }
     Needle::PartialName
@@ -67,16 +67,16 @@ pub(crate) fn needle_of(specs: &[u8], negative: bool, side: Side) -> Needle
 fn lead_of(t: &[u8]) -> Lead
     ensures { λ r. ⌜ completed (now (t .entry)) ≡ ledText r (now (t .entry)) ⌝ }
 {
-    if text::begins(t, b"refs/") {
+    if compare::begins(t, b"refs/") {
         return Lead::AsIs;
     }
-    if text::object_id(t) {
+    if hex::object_id(t) {
         return Lead::HeadsDigits;
     }
-    if text::begins(t, b"tags/") {
+    if compare::begins(t, b"tags/") {
         return Lead::Refs;
     }
-    if text::begins(t, b"remotes/") {
+    if compare::begins(t, b"remotes/") {
         return Lead::Refs;
     }
     Lead::Heads

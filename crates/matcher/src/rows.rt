@@ -121,7 +121,7 @@ fn full_row(specs: &[u8], src: Side, dst: Side, rhs: Target, name: &[u8]) -> End
     ensures { λ r. ⌜ Answers (now (specs .entry)) (now (name .entry)) dst rhs (wholeIf (same (sideText (now (specs .entry)) src) (now (name .entry)))) r ⌝ }
 {
     let t = text_of(specs, b"HEAD", src);
-    if text::same(t, name) {
+    if compare::same(t, name) {
         return whole_row(dst, rhs);
     }
     Ends::Nothing
@@ -166,7 +166,7 @@ fn same_back(specs: &[u8], src: Side, dst: Side, name: &[u8]) -> Ends
     ensures { λ r. ⌜ AnswersBack (now (specs .entry)) (now (name .entry)) (reverseForms (some (literal (sideText (now (specs .entry)) src))) (some (literal (sideText (now (specs .entry)) dst))) (now (name .entry))) r ⌝ }
 {
     let t = text_of(specs, b"HEAD", dst);
-    if text::same(t, name) {
+    if compare::same(t, name) {
         return Ends::Row {
             source: Made::Led(Lead::AsIs, src),
             destination: Made::Name,

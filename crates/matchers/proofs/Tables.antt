@@ -9,8 +9,8 @@ use borrow.Author.Tests.{ltb-true, ltb-false}
 use lib.Dec.{ltb}
 use lib.ListN.{length, getD, set, length-set}
 use Rattle.meaning.specs.Bytes.{Text}
-use Rattle.text.specs.Splice.{splice}
-use Rattle.text.proofs.Splices.{length-splice, splice-splice, splice-byte, splice-there, splice-before, splice-after}
+use Rattle.buffer.specs.Splice.{splice}
+use Rattle.buffer.proofs.Splices.{length-splice, splice-splice, splice-byte, splice-there, splice-before, splice-after}
 use Rattle.parse.specs.declared.types.Side.{Side}
 use Rattle.matcher.specs.declared.types.Needle.{Needle}
 use Rattle.matcher.specs.declared.types.Target.{Target}

@@ -10,7 +10,7 @@ use lib.ListN.{length, getD, drop, take}
 use Rattle.meaning.specs.Bytes.{Text, bytes, same, begins}
 use Rattle.text.proofs.Rests.{rest-cons, rest-end, rest-part}
 use Rattle.text.proofs.Rows.{and-true}
-use Rattle.text.proofs.Sames.{eqb-swap}
+use Rattle.compare.proofs.Sames.{eqb-swap}
 use Rattle.name.specs.Rules.{nameByte, restOfLock, afterDot, afterSlash, afterAt, stands}
 
 module _ (s : Text) (r : Bool) (e : r ≡ same s (bytes "lock")) where

@@ -8,7 +8,7 @@ use lib.Dec.{T, eqb}
 use Rattle.meaning.specs.Bytes.{Text, bytes, slash, _and_, _or_, every, same, begins, ends}
 use Rattle.meaning.specs.Names.{parts, partsNext, partPasses, partsPass}
 use Rattle.text.proofs.Rows.{and-true}
-use Rattle.text.proofs.Sames.{same-swap}
+use Rattle.compare.proofs.Sames.{same-swap}
 use Rattle.name.specs.Rules.{restOfLock}
 use Rattle.name.proofs.Tails.{tails}
 

@@ -7,7 +7,7 @@ use borrow.Author.Tests.{eqb-true}
 use lib.Dec.{T, eqb}
 use Rattle.meaning.specs.Bytes.{Text, bytes, star, _and_, _or_, every, empty, same, begins, hasByte}
 use Rattle.meaning.specs.Names.{ruleFourByte, ruleFiveByte, notAt, starAsLetter, sidePasses}
-use Rattle.text.proofs.Sames.{same-swap}
+use Rattle.compare.proofs.Sames.{same-swap}
 use Rattle.name.specs.Rules.{nameByte, restOfLock, afterDot, afterSlash, afterAt, stands}
 use Rattle.name.proofs.Tails.{tails}
 use Rattle.name.proofs.Names.{name-row}

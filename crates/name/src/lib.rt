@@ -29,10 +29,10 @@ fn forbids(b: u8) -> bool
 fn rest_of_lock(s: &[u8]) -> bool
     ensures { λ r. ⌜ r ≡ restOfLock (now (s .entry)) ⌝ }
 {
-    if text::same(s, b"lock") {
+    if compare::same(s, b"lock") {
         return true;
     }
-    text::begins(s, b"lock/")
+    compare::begins(s, b"lock/")
 }
 
 // 1, 3 and 7: what stands from `at` on may follow a dot.
@@ -235,7 +235,7 @@ fn opens(s: &[u8]) -> bool
     if !after_slash(s, 0) {
         return false;
     }
-    !text::same(s, b"@")
+    !compare::same(s, b"@")
 }
 
 // A pattern, or a name, passes: the rules with each star read as the letter a. No rule but 5 names a star or an a, so that the others

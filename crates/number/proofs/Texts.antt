@@ -6,8 +6,8 @@ use native.Mathlib.Omega.{arith}
 use lib.ListN.{length, length-append}
 use Rattle.meaning.specs.Bytes.{Text}
 use Rattle.meaning.specs.Number.{numberBytes, textBytes}
-use Rattle.text.specs.Splice.{splice}
-use Rattle.text.proofs.Writing.{Writing, writing-starts, writing-room, writing-more, written-place, written-whole}
+use Rattle.buffer.specs.Splice.{splice}
+use Rattle.buffer.proofs.Writing.{Writing, writing-starts, writing-room, writing-more, written-place, written-whole}
 
 module _ (t : Text) (n : ℕ) (size : n ≡ length t) where
   pub text-pieces : textBytes t ≡ numberBytes n ++ t

@@ -7,9 +7,9 @@ use lib.ListN.{length, set}
 use Rattle.meaning.specs.Bytes.{Text}
 use Rattle.meaning.specs.Number.{numberBytes}
 use Rattle.promises.proofs.Reading.{number-long}
-use Rattle.text.specs.Splice.{splice}
-use Rattle.text.proofs.Splices.{splice-byte}
-use Rattle.text.proofs.Writing.{Writing, writing-starts, writing-more, written-place, written-whole}
+use Rattle.buffer.specs.Splice.{splice}
+use Rattle.buffer.proofs.Splices.{splice-byte}
+use Rattle.buffer.proofs.Writing.{Writing, writing-starts, writing-more, written-place, written-whole}
 use Rattle.number.specs.Reading.{largestNumber}
 use Rattle.number.proofs.Bytes.{bytes-last, bytes-more}
 

@@ -3,7 +3,7 @@ ghost use mathlib.Core.Path.{_≡_};
 ghost use Prim.Native.Nat.{_+_, _<_, _≤_, _/_, _%_};
 ghost use lib.ListN.{length};
 ghost use Rattle.meaning.specs.Number.{numberBytes};
-ghost use Rattle.text.specs.Splice.{splice};
+ghost use Rattle.buffer.specs.Splice.{splice};
 ghost use Rattle.number.specs.Reading.{largestNumber, foundAt, numberAt, afterOne, afterTwo};
 
 // The largest number of three groups.

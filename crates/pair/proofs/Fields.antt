@@ -10,7 +10,7 @@ use Rattle.meaning.specs.Bytes.{Text, each}
 use Rattle.meaning.specs.Spec.{Spec}
 use Rattle.meaning.specs.Rows.{Row, rowBytes, rowListOf}
 use Rattle.meaning.specs.Listing.{Ends, nameRow}
-use Rattle.text.specs.Splice.{splice}
+use Rattle.buffer.specs.Splice.{splice}
 use Rattle.matcher.specs.declared.types.Made.{Made}
 use Rattle.matcher.specs.Matching.{MadeWithin, objectEnds, objectRowOf}
 use Rattle.matcher.proofs.Objects.{object-rows}

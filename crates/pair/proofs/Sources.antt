@@ -7,8 +7,8 @@ use native.Mathlib.Omega.{arith}
 use lib.ListN.{length, take, drop}
 use lib.Seq.{take-append-seam}
 use Rattle.meaning.specs.Bytes.{Text, orEmpty}
-use Rattle.text.specs.Splice.{splice}
-use Rattle.text.proofs.Splices.{splice-start}
+use Rattle.buffer.specs.Splice.{splice}
+use Rattle.buffer.proofs.Splices.{splice-start}
 use Rattle.parse.specs.Places.{partAt}
 use Rattle.parse.proofs.Parts.{part-of}
 use Rattle.matcher.specs.declared.types.Made.{Made}

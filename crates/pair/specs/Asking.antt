@@ -9,7 +9,7 @@ use Rattle.meaning.specs.Bytes.{Text}
 use Rattle.meaning.specs.Limits.{listBytes, specBytes}
 use Rattle.meaning.specs.Listing as listing
 use Rattle.parse.specs.Places.{sideMeant}
-use Rattle.text.specs.Splice.{splice}
+use Rattle.buffer.specs.Splice.{splice}
 use Rattle.matcher.specs.declared.types.Matcher.{Matcher}
 use Rattle.matcher.specs.declared.types.Ends.{Ends}
 use Rattle.matcher.specs.Matching.{endsMeant, EndsWithin, Matches}

@@ -204,7 +204,7 @@ fn looks_like_object_hash(t: &[u8]) -> bool
     if t.len() < SHORTEST_HASH {
         return false;
     }
-    text::all_hex(t)
+    hex::all_hex(t)
 }
 
 // The n bytes that begin at `at` look like an object hash.

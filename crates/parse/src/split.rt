@@ -62,7 +62,7 @@ fn source_place(op: u64, m: Mode, spec: &[u8], at: usize, n: usize) -> Side
         return supplied(op, m);
     }
     let end = at + n;
-    if text::same(&spec[at..end], b"@") {
+    if compare::same(&spec[at..end], b"@") {
         return Side::Head;
     }
     Side::Part(at, n)
@@ -109,7 +109,7 @@ pub(crate) fn split(op: u64, spec: &[u8]) -> Sides
 {
     let m = mode_of(spec);
     let at = sign_length(m);
-    let past = text::past_last(&spec[at..], b':');
+    let past = last::past_last(&spec[at..], b':');
     if past == 0 {
         let spec = one_side(op, m, spec, at);
         return Sides { spec, colon: false };

@@ -15,9 +15,9 @@ use Rattle.meaning.specs.Bytes.{Text, _or_, any, same}
 use Rattle.meaning.specs.Limits.{listBytes, specCount}
 use Rattle.meaning.specs.Number.{textBytes, recordBytes}
 use Rattle.promises.proofs.Laws.{or-right}
-use Rattle.text.specs.Splice.{splice}
-use Rattle.text.proofs.Pairs.{pair-second, pair-put, pair-end}
-use Rattle.text.proofs.Splices.{splice-none, splice-start, length-splice}
+use Rattle.buffer.specs.Splice.{splice}
+use Rattle.buffer.proofs.Pairs.{pair-second, pair-put, pair-end}
+use Rattle.buffer.proofs.Splices.{splice-none, splice-start, length-splice}
 use Rattle.prefixes.specs.declared.entry.Entry.{Entry}
 use Rattle.prefixes.specs.Distinct.{addNew}
 use Rattle.prefixes.specs.Table.{entryText, entryAt, tableTexts, EntryWithin, Entries, Entered}

@@ -9,7 +9,7 @@ use lib.Dec.{ltb}
 use lib.ListN.{length, take, drop}
 use Rattle.meaning.specs.Bytes.{Text, bytes, same}
 use Rattle.meaning.specs.Number.{numberBytes, textBytes}
-use Rattle.text.specs.Splice.{splice}
+use Rattle.buffer.specs.Splice.{splice}
 use Rattle.parse.specs.Places.{partAt}
 use Rattle.parse.proofs.Parts.{part-of, part-length}
 use Rattle.frames.specs.Frames.{candidate}

@@ -5,7 +5,7 @@ ghost use lib.ListN.{length};
 ghost use Rattle.meaning.specs.Bytes.{same};
 ghost use Rattle.meaning.specs.Limits.{listBytes};
 ghost use Rattle.meaning.specs.Number.{textBytes};
-ghost use Rattle.text.specs.Splice.{splice};
+ghost use Rattle.buffer.specs.Splice.{splice};
 ghost use Rattle.prefixes.specs.Table.{entryText, sideEntry, EntryWithin};
 use frames::FRAMES;
 use frames::is_candidate;
@@ -67,7 +67,7 @@ pub(crate) fn put_entry(out: &mut [u8], i: usize, specs: &[u8], e: Entry) -> usi
         let end = at + e.len;
         return put_record(out, i, e.frame, &specs[at..end]);
     }
-    text::put(out, i, b"\x04HEAD")
+    buffer::put(out, i, b"\x04HEAD")
 }
 
 // The text, written at the start of the buffer; how many bytes it has.
@@ -80,7 +80,7 @@ pub(crate) fn spell(out: &mut [u8], specs: &[u8], e: Entry) -> usize
         let end = at + e.len;
         return put_candidate(out, 0, e.frame, &specs[at..end]);
     }
-    text::put(out, 0, b"HEAD")
+    buffer::put(out, 0, b"HEAD")
 }
 
 // t is the text.
@@ -93,5 +93,5 @@ pub(crate) fn is_entry(specs: &[u8], e: Entry, t: &[u8]) -> bool
         let end = at + e.len;
         return is_candidate(e.frame, &specs[at..end], t);
     }
-    text::same(t, b"HEAD")
+    compare::same(t, b"HEAD")
 }

@@ -6,7 +6,7 @@ ghost use lib.ListN.{length, set};
 ghost use Rattle.meaning.specs.Bytes.{any, same};
 ghost use Rattle.meaning.specs.Limits.{listBytes, specCount};
 ghost use Rattle.meaning.specs.Number.{recordBytes};
-ghost use Rattle.text.specs.Splice.{splice};
+ghost use Rattle.buffer.specs.Splice.{splice};
 ghost use Rattle.prefixes.specs.Table.{entryText, entryAt, tableTexts, EntryWithin, Entries, Entered};
 use super::entry::Entry;
 use super::entry::entry_size;

@@ -9,9 +9,9 @@ use lib.Dec.{ltb}
 use lib.ListN.{length, length-append}
 use Rattle.meaning.specs.Bytes.{Text}
 use Rattle.meaning.specs.Deliveries.{digits, decimal}
-use Rattle.text.specs.Splice.{splice}
-use Rattle.text.proofs.Splices.{splice-none}
-use Rattle.text.proofs.Pairs.{pair-first, pair-second, pair-put, pair-end}
+use Rattle.buffer.specs.Splice.{splice}
+use Rattle.buffer.proofs.Splices.{splice-none}
+use Rattle.buffer.proofs.Pairs.{pair-first, pair-second, pair-put, pair-end}
 
 -- a number below 10 is one digit
 one-digit : (k n : ℕ) → (k ≡ 0 → ⊥) → n < 10 → digits k n ≡ (48 + n % 10) ∷ []

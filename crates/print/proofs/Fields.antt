@@ -7,8 +7,8 @@ use native.Mathlib.Omega.{arith}
 use lib.ListN.{length, length-append}
 use Rattle.meaning.specs.Bytes.{Text, bytes}
 use Rattle.meaning.specs.Deliveries.{decimal, shown, shownOption, shownItem, shownKind}
-use Rattle.text.specs.Splice.{splice}
-use Rattle.text.proofs.Pairs.{pair-first, pair-second, pair-put, pair-end}
+use Rattle.buffer.specs.Splice.{splice}
+use Rattle.buffer.proofs.Pairs.{pair-first, pair-second, pair-put, pair-end}
 use Rattle.print.specs.Lines.{ended, withTab, withFeed, optional}
 
 -- a field has one byte more

@@ -7,9 +7,9 @@ use native.Mathlib.Omega.{arith}
 use lib.ListN.{length, length-append}
 use Rattle.meaning.specs.Bytes.{Text, bytes}
 use Rattle.meaning.specs.Deliveries.{decimal, shown, shownOption, shownItem, shownKind, rowLine}
-use Rattle.text.specs.Splice.{splice}
-use Rattle.text.proofs.Pairs.{pair-second, pair-put, pair-end}
-use Rattle.text.proofs.Threes.{three-first, three-second, three-third, three-put, three-end}
+use Rattle.buffer.specs.Splice.{splice}
+use Rattle.buffer.proofs.Pairs.{pair-second, pair-put, pair-end}
+use Rattle.buffer.proofs.Threes.{three-first, three-second, three-third, three-put, three-end}
 use Rattle.print.specs.Lines.{ended, withTab, withFeed, lineStart, optional, rowOf}
 use Rattle.print.proofs.Decimals.{decimal-few}
 use Rattle.print.proofs.Fields.{ended-length}

@@ -11,11 +11,11 @@ use lib.ListN.{length, getD, drop, length-append}
 use Rattle.meaning.specs.Bytes.{Text, each}
 use Rattle.meaning.specs.Limits.{programBytes}
 use Rattle.meaning.specs.Deliveries.{capitalDigit, shownByte, shown}
-use Rattle.text.specs.Splice.{splice}
+use Rattle.buffer.specs.Splice.{splice}
 use Rattle.text.proofs.Rests.{rest-cons, rest-end}
-use Rattle.text.proofs.Pairs.{pair-second, pair-put, pair-end}
-use Rattle.text.proofs.Threes.{three-put}
-use Rattle.text.proofs.Writing.{Writing, writing-starts, writing-room, writing-more, written-place, written-whole}
+use Rattle.buffer.proofs.Pairs.{pair-second, pair-put, pair-end}
+use Rattle.buffer.proofs.Threes.{three-put}
+use Rattle.buffer.proofs.Writing.{Writing, writing-starts, writing-room, writing-more, written-place, written-whole}
 use Rattle.print.specs.Lines.{plain, coded}
 
 -- a capital digit

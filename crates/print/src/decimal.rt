@@ -3,8 +3,8 @@ ghost use mathlib.Core.Path.{_≡_};
 ghost use Prim.Native.Nat.{_+_, _≤_, _%_};
 ghost use lib.ListN.{length};
 ghost use Rattle.meaning.specs.Deliveries.{digits, decimal};
-ghost use Rattle.text.specs.Splice.{splice};
-use text::put_byte;
+ghost use Rattle.buffer.specs.Splice.{splice};
+use buffer::put_byte;
 
 // The most digits that a number has in print.
 const DIGITS: usize = 4;

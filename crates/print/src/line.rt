@@ -6,14 +6,14 @@ ghost use lib.ListN.{length};
 ghost use Rattle.meaning.specs.Limits.{programBytes};
 ghost use Rattle.meaning.specs.Spec.{refused};
 ghost use Rattle.meaning.specs.Deliveries.{decimal, shown, shownOption, shownItem, shownKind, rowLine, header, output};
-ghost use Rattle.text.specs.Splice.{splice};
+ghost use Rattle.buffer.specs.Splice.{splice};
 ghost use Rattle.print.specs.Lines.{ended, withTab, withFeed, lineStart, optional, rowOf};
 use super::decimal::decimal_size;
 use super::decimal::put_decimal;
 use super::shown::put_shown;
 use super::shown::shown_size;
-use text::put;
-use text::put_byte;
+use buffer::put;
+use buffer::put_byte;
 
 // How many bytes the header has.
 pub fn header_size() -> usize

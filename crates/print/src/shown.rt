@@ -4,9 +4,9 @@ ghost use Prim.Native.Nat.{_+_, _<_, _≤_};
 ghost use lib.ListN.{length};
 ghost use Rattle.meaning.specs.Limits.{programBytes};
 ghost use Rattle.meaning.specs.Deliveries.{capitalDigit, shownByte, shown};
-ghost use Rattle.text.specs.Splice.{splice};
+ghost use Rattle.buffer.specs.Splice.{splice};
 ghost use Rattle.print.specs.Lines.{plain, coded};
-use text::put_byte;
+use buffer::put_byte;
 
 // A byte that is printed as it is: 33 to 126, but not `%`.
 fn is_plain(b: u8) -> bool

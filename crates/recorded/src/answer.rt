@@ -230,7 +230,7 @@ fn refused_agrees(told: &[u8], at: usize) -> bool
     ensures { λ r. ⌜ (r ≡ true → drop at (now (told .entry)) ≡ 0 ∷ []) ⌝ }
 {
     let none = [0];
-    text::same(&told[at..], &none)
+    compare::same(&told[at..], &none)
 }
 
 // The answer, from `at` to the record's end.

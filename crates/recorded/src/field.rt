@@ -39,7 +39,7 @@ pub(crate) fn bytes_field(told: &[u8], at: usize, want: &[u8]) -> Next
     requires { ⌜ at ≤ length (now told) ⌝ }
     ensures { λ r. ⌜ Found (now (told .entry)) at (now (want .entry)) r ⌝ }
 {
-    if text::begins(&told[at..], want) {
+    if compare::begins(&told[at..], want) {
         return Next::At(at + want.len());
     }
     Next::Differs

@@ -126,17 +126,17 @@ pub fn remote(op: u64, r: RefSpec) -> Side
 fn prefix_length(t: &[u8]) -> usize
     ensures { λ r. ⌜ r ≡ lengthOr0 (namePrefix (now (t .entry))) ⌝ }
 {
-    if text::same(t, b"HEAD") {
+    if compare::same(t, b"HEAD") {
         return t.len();
     }
-    if !text::begins(t, b"refs/") {
+    if !compare::begins(t, b"refs/") {
         return 0;
     }
     let star = text::find(t, b'*');
     if star == t.len() {
         return star;
     }
-    if text::begins(t, b"refs/*") {
+    if compare::begins(t, b"refs/*") {
         return 0;
     }
     if text::has_byte(t, b']') {

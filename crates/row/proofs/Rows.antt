@@ -10,11 +10,11 @@ use lib.ListN.{length, length-append}
 use Rattle.meaning.specs.Bytes.{Text, orEmpty}
 use Rattle.meaning.specs.Number.{numberBytes, textBytes}
 use Rattle.meaning.specs.Rows.{destinationBytes, rowBytes}
-use Rattle.text.specs.Splice.{splice}
-use Rattle.text.proofs.Pairs.{pair-first, pair-second, pair-put, pair-end}
+use Rattle.buffer.specs.Splice.{splice}
+use Rattle.buffer.proofs.Pairs.{pair-first, pair-second, pair-put, pair-end}
 use mir.Val.{Fits}
 use mir.Syntax.{w64}
-use Rattle.text.proofs.Threes.{three-first, three-second, three-third, three-put, three-end}
+use Rattle.buffer.proofs.Threes.{three-first, three-second, three-third, three-put, three-end}
 use Rattle.number.proofs.Bytes.{bytes-few, size-one}
 use Rattle.parse.specs.declared.types.Side.{Side}
 use Rattle.matcher.specs.declared.types.Lead.{Lead}

@@ -5,7 +5,7 @@ ghost use lib.ListN.{length};
 ghost use Rattle.meaning.specs.Bytes.{orEmpty};
 ghost use Rattle.meaning.specs.Number.{textBytes};
 ghost use Rattle.meaning.specs.Rows.{destinationBytes, rowBytes};
-ghost use Rattle.text.specs.Splice.{splice};
+ghost use Rattle.buffer.specs.Splice.{splice};
 ghost use Rattle.matcher.specs.Matching.{madeMeant, MadeWithin};
 ghost use Rattle.row.specs.Rows.{Lent, RowWithin, isAbsent, rowMeant, rowNumbers, presentBytes};
 use made::made_size;

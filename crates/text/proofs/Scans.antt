@@ -2,32 +2,22 @@
 use mathlib.Core.Path.{_≡_, refl, sym, _∙_}
 use mathlib.Core.Bool.{Bool, true, false, not, cond}
 use mathlib.Core.List.{[], _∷_}
-use Prim.Native.Nat.{ℕ, suc, _+_, _-_, _≤_, _<_}
+use Prim.Native.Nat.{ℕ, suc, _+_, _≤_, _<_}
 use native.Mathlib.Nat.{add-zero}
 use native.Mathlib.Omega.{arith}
 use borrow.Author.Tests.{eq-eqb, ne-eqb, not-true, not-false, lt-ltb}
 use lib.Dec.{eqb, ltb, leb·suc-suc}
-use lib.ListN.{length, getD, drop, take}
-use Rattle.meaning.specs.Bytes.{Text, _or_, every, same, begins, hasByte, count}
+use lib.ListN.{length, getD, drop}
+use Rattle.meaning.specs.Bytes.{Text, _or_, every, hasByte, count}
 use Rattle.text.specs.Place.{firstAt}
-use Rattle.text.proofs.Rests.{rest-cons, rest-end, rest-part}
+use Rattle.text.proofs.Rests.{rest-cons, rest-end}
 
 -- the pattern's byte stands first in the definitions, the text's first in the code
-byte-is : (x b : ℕ) → x ≡ b → eqb b x ≡ true
+pub byte-is : (x b : ℕ) → x ≡ b → eqb b x ≡ true
 byte-is x b e = eq-eqb b x (sym e)
 
-byte-other : (x b : ℕ) → (x ≡ b → ⊥) → eqb b x ≡ false
+pub byte-other : (x b : ℕ) → (x ≡ b → ⊥) → eqb b x ≡ false
 byte-other x b n = ne-eqb b x (λ e. n (sym e))
-
-module _ (p s : Text) (i : ℕ) (inv : begins (drop i p) (drop i s) ≡ begins p s) where
-  pub begins-other : length p ≤ length s → i < length p → (getD s i 0 ≡ getD p i 0 → ⊥) → false ≡ begins p s
-  begins-other l h n = rw (rest-cons p i h, rest-cons s i (omega arith), byte-other _ _ n) at inv
-
-  pub begins-more : length p ≤ length s → i < length p → getD s i 0 ≡ getD p i 0 → begins (drop (i + 1) p) (drop (i + 1) s) ≡ begins p s
-  begins-more l h e = rw (rest-cons p i h, rest-cons s i (omega arith), byte-is _ _ e) at inv
-
-  pub begins-done : length p ≤ i → true ≡ begins p s
-  begins-done h = rw (rest-end p i h) at inv
 
 module _ (test : ℕ → Bool) (s : Text) (i : ℕ) (inv : every test (drop i s) ≡ every test s) where
   pub every-fails : (r : Bool) → i < length s → r ≡ test (getD s i 0) → not r ≡ true → false ≡ every test s

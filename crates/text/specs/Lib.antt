@@ -1,4 +1,2 @@
--- What contracts on byte texts cite beside the meaning: places of a byte, a text written into a buffer, and several bytes as one number.
+-- What contracts on byte texts cite beside the meaning: the first place of a byte.
 pub mod Place
-pub mod Splice
-pub mod Word

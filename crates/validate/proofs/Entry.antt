@@ -13,8 +13,8 @@ use Rattle.meaning.specs.Validation.{Conflict, conflicts, conflictBytes, isKept
 use Rattle.meaning.specs.Buffers.{MeetsTwo}
 use Rattle.meaning.specs.Entries.{verdictOn, verdictBytes, validated}
 use Rattle.promises.proofs.Buffers.{meets-two-refused, meets-two-short-first, meets-two-short-second, meets-two-conflicts, meets-two-passes}
-use Rattle.text.specs.Splice.{splice}
-use Rattle.text.proofs.Splices.{splice-start}
+use Rattle.buffer.specs.Splice.{splice}
+use Rattle.buffer.proofs.Splices.{splice-start}
 use Rattle.list.specs.declared.items.Checked.{Checked}
 use Rattle.list.specs.Checked.{checked}
 use Rattle.list.proofs.Told.{Passed, specs-passed, specs-failed, rows-passed, rows-failed}

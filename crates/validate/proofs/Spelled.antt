@@ -12,8 +12,8 @@ use Rattle.meaning.specs.Bytes.{Text, each, ifGiven}
 use Rattle.meaning.specs.Rows.{rowBytes}
 use Rattle.meaning.specs.Validation.{isFull, isKept, fixBy, fixBytes}
 use Rattle.promises.proofs.Spelling.{row-record-spelled}
-use Rattle.text.specs.Splice.{splice}
-use Rattle.text.proofs.Splices.{splice-none}
+use Rattle.buffer.specs.Splice.{splice}
+use Rattle.buffer.proofs.Splices.{splice-none}
 use Rattle.number.specs.Reading.{Octets}
 use Rattle.parse.specs.Places.{sideMeant}
 use Rattle.list.specs.declared.rows.RowPlace.{RowPlace}

@@ -13,8 +13,8 @@ use Rattle.meaning.specs.Bytes.{Text, keep, each}
 use Rattle.meaning.specs.Spec.{accepted}
 use Rattle.meaning.specs.Rows as meaning
 use Rattle.meaning.specs.Validation.{isKept, fixOf, fixBytes}
-use Rattle.text.specs.Splice.{splice}
-use Rattle.text.proofs.Writing.{Writing, writing-starts, writing-room, writing-more, written-place, written-whole}
+use Rattle.buffer.specs.Splice.{splice}
+use Rattle.buffer.proofs.Writing.{Writing, writing-starts, writing-room, writing-more, written-place, written-whole}
 use Rattle.parse.specs.Places.{sideMeant, Within}
 use Rattle.list.specs.declared.cursor.Cursor.{Cursor}
 use Rattle.list.specs.declared.rows.RowPlace.{RowPlace}

@@ -6,7 +6,7 @@ ghost use Rattle.meaning.specs.Bytes.{keep, each, ifGiven};
 ghost use Rattle.meaning.specs.Limits.{rowListBytes};
 ghost use Rattle.meaning.specs.Rows.{rowListOf};
 ghost use Rattle.meaning.specs.Validation.{isFull, isKept, fixOf, fixBytes};
-ghost use Rattle.text.specs.Splice.{splice};
+ghost use Rattle.buffer.specs.Splice.{splice};
 ghost use Rattle.number.specs.Reading.{largestNumber};
 ghost use Rattle.parse.specs.Places.{partAt, sideMeant, Within};
 ghost use Rattle.list.specs.Rows.{rowMeant, RowTaken};
@@ -28,10 +28,10 @@ pub struct Lengths {
 pub fn is_full(t: &[u8]) -> bool
     ensures { λ r. ⌜ r ≡ isFull (now (t .entry)) ⌝ }
 {
-    if text::begins(t, b"refs/") {
+    if compare::begins(t, b"refs/") {
         return true;
     }
-    text::same(t, b"HEAD")
+    compare::same(t, b"HEAD")
 }
 
 // The destination of n bytes that begin at `at` is full.
@@ -129,7 +129,7 @@ fn put_name_fix(out: &mut [u8], to: usize, rows: &[u8], at: usize, n: usize, spe
     }
     let end = at + n;
     let i = number::put(out, to, n);
-    let j = text::put(out, i, &rows[at..end]);
+    let j = buffer::put(out, i, &rows[at..end]);
     number::put(out, j, spec)
 }
 
@@ -168,7 +168,7 @@ fn put_either(
             fixed,
         };
     }
-    let kept = text::put(out, to.kept, &rows[at..end]);
+    let kept = buffer::put(out, to.kept, &rows[at..end]);
     Lengths {
         kept,
         fixed: to.fixed,

@@ -92,7 +92,7 @@ fn record_at(list: &[u8], n: usize) -> Extent
 fn spells_object(t: &[u8]) -> bool
     ensures { λ r. ⌜ r ≡ objectId (now (t .entry)) ⌝ }
 {
-    text::object_id(t)
+    hex::object_id(t)
 }
 
 // The n bytes at a place of the spec that begins at `start`, where they are an object id.

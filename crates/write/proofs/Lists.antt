@@ -11,8 +11,8 @@ use Rattle.meaning.specs.Number.{numberBytes, textBytes, recordBytes}
 use Rattle.meaning.specs.Prefix.{candidates, yielded, expandPrefixes}
 use Rattle.meaning.specs.Buffers.{MeetsOne}
 use Rattle.meaning.specs.Entries.{expanded}
-use Rattle.text.specs.Splice.{splice}
-use Rattle.text.proofs.Splices.{splice-none}
+use Rattle.buffer.specs.Splice.{splice}
+use Rattle.buffer.proofs.Splices.{splice-none}
 use Rattle.number.proofs.Texts.{number-room, text-room, text-put}
 use Rattle.parse.specs.declared.types.Side.{Side}
 use Rattle.parse.specs.declared.types.RefSpec.{RefSpec}

@@ -10,8 +10,8 @@ use Rattle.meaning.specs.Spec.{accepted}
 use Rattle.meaning.specs.Buffers.{MeetsOne}
 use Rattle.meaning.specs.Entries.{_andThen_}
 use Rattle.promises.proofs.Buffers.{meets-refused, meets-short, meets-written}
-use Rattle.text.specs.Splice.{splice}
-use Rattle.text.proofs.Splices.{splice-start}
+use Rattle.buffer.specs.Splice.{splice}
+use Rattle.buffer.proofs.Splices.{splice-start}
 use Rattle.parse.specs.declared.types.RefSpec.{RefSpec}
 use Rattle.parse.specs.declared.Parsed.{Parsed}
 use Rattle.parse.specs.declared.Parsed.the-variants.{Spec, Refused}

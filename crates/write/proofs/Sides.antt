@@ -6,8 +6,8 @@ use mathlib.Core.Path.{_≡_, sym}
 use lib.ListN.{length, take, drop}
 use Rattle.meaning.specs.Bytes.{Text, bytes}
 use Rattle.meaning.specs.Limits.{specBytes}
-use Rattle.text.specs.Splice.{splice}
-use Rattle.text.proofs.Splices.{splice-none}
+use Rattle.buffer.specs.Splice.{splice}
+use Rattle.buffer.proofs.Splices.{splice-none}
 use Rattle.parse.specs.declared.types.Side.{Side}
 use Rattle.parse.specs.declared.types.Side.the-variants.{Absent, Part, Head}
 use Rattle.parse.specs.Places.{partAt, Within}

@@ -12,9 +12,9 @@ use Rattle.meaning.specs.Spec.{accepted, isNegative, isForce, push}
 use Rattle.meaning.specs.Instruction.{instructionText, canonicalText}
 use Rattle.meaning.specs.Buffers.{MeetsOne}
 use Rattle.meaning.specs.Entries.{toBstring}
-use Rattle.text.specs.Splice.{splice}
-use Rattle.text.proofs.Splices.{splice-none}
-use Rattle.text.proofs.Pairs.{pair-first, pair-second, pair-put}
+use Rattle.buffer.specs.Splice.{splice}
+use Rattle.buffer.proofs.Splices.{splice-none}
+use Rattle.buffer.proofs.Pairs.{pair-first, pair-second, pair-put}
 use Rattle.parse.specs.declared.types.Side.{Side}
 use Rattle.parse.specs.declared.types.Side.the-variants.{Absent}
 use Rattle.parse.specs.declared.types.RefSpec.{RefSpec}

@@ -4,7 +4,7 @@ ghost use mathlib.Core.List.{[], _∷_, _++_};
 ghost use mathlib.Core.Option.{some};
 ghost use Prim.Native.Nat.{_+_, _≤_};
 ghost use lib.ListN.{length};
-ghost use Rattle.text.specs.Splice.{splice};
+ghost use Rattle.buffer.specs.Splice.{splice};
 ghost use Rattle.meaning.specs.Limits.{specBytes};
 ghost use Rattle.meaning.specs.Spec.{accepted};
 ghost use Rattle.meaning.specs.Instruction.{canonicalText};
@@ -132,7 +132,7 @@ fn put_sign(out: &mut [u8], at: usize, sign: u8) -> usize
     if sign == 0 {
         return at;
     }
-    text::put_byte(out, at, sign)
+    buffer::put_byte(out, at, sign)
 }
 
 // Writes a colon, if there is one, and answers the place after it.
@@ -141,7 +141,7 @@ fn put_colon(out: &mut [u8], at: usize, colon: bool) -> usize
     ensures { λ r. ⌜ (now (out .exit) ≡ splice (now (out .entry)) at (colonText colon)) × (r ≡ at + length (colonText colon)) ⌝ }
 {
     if colon {
-        return text::put_byte(out, at, b':');
+        return buffer::put_byte(out, at, b':');
     }
     at
 }

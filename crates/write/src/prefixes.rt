@@ -10,7 +10,7 @@ ghost use Rattle.meaning.specs.Number.{textBytes, recordBytes};
 ghost use Rattle.meaning.specs.Prefix.{candidates, expandPrefixes};
 ghost use Rattle.meaning.specs.Buffers.{MeetsOne};
 ghost use Rattle.meaning.specs.Entries.{expanded};
-ghost use Rattle.text.specs.Splice.{splice};
+ghost use Rattle.buffer.specs.Splice.{splice};
 ghost use Rattle.parse.specs.Places.{partAt, Within, SidesWithin, specMeant};
 ghost use Rattle.refspec.specs.Instructions.{sideText};
 ghost use Rattle.write.specs.Yields.{yieldWithout, yieldAt, yieldPlace, yieldMeant, YieldWithin};
@@ -38,13 +38,13 @@ pub enum Yield {
 fn name_yield(t: &[u8], at: usize) -> Yield
     ensures { λ r. ⌜ r ≡ yieldWithout at (now (t .entry)) ⌝ }
 {
-    if text::begins(t, b"refs/") {
+    if compare::begins(t, b"refs/") {
         if text::has_byte(&t[5..], b'/') {
             return Yield::Nothing;
         }
         return Yield::One(Side::Part(at, t.len()));
     }
-    if text::object_id(t) {
+    if hex::object_id(t) {
         return Yield::Nothing;
     }
     Yield::Six(at, t.len())

@@ -3,7 +3,7 @@ ghost use mathlib.Core.Path.{_≡_};
 ghost use Prim.Native.Nat.{_+_, _≤_};
 ghost use lib.ListN.{length};
 ghost use Rattle.meaning.specs.Limits.{specBytes};
-ghost use Rattle.text.specs.Splice.{splice};
+ghost use Rattle.buffer.specs.Splice.{splice};
 ghost use Rattle.parse.specs.Places.{partAt, Within};
 ghost use Rattle.refspec.specs.Instructions.{sideText};
 use parse::types::Side;
@@ -26,7 +26,7 @@ fn put_part(out: &mut [u8], at: usize, spec: &[u8], from: usize, n: usize) -> us
     ensures { λ r. ⌜ (now (out .exit) ≡ splice (now (out .entry)) at (partAt (now (spec .entry)) from n)) × (r ≡ at + length (partAt (now (spec .entry)) from n)) ⌝ }
 {
     let end = from + n;
-    text::put(out, at, &spec[from..end])
+    buffer::put(out, at, &spec[from..end])
 }
 
 // Writes the text of a side, and answers the place after it.
@@ -37,6 +37,6 @@ pub(crate) fn put_side(out: &mut [u8], at: usize, spec: &[u8], side: Side) -> us
     match side {
         Side::Absent => at,
         Side::Part(from, n) => put_part(out, at, spec, from, n),
-        Side::Head => text::put(out, at, b"HEAD"),
+        Side::Head => buffer::put(out, at, b"HEAD"),
     }
 }

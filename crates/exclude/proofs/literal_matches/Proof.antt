@@ -4,7 +4,7 @@ use borrow.Author.Needs.{needs}
 use borrow.Author.Needs.{needs}
 use Rattle.exclude.proofs.literal_matches.Statement.{statement}
 use Rattle.exclude.proofs.literal_matches.Tie as tie
-use Rattle.text.proofs.same.Reads as same-reads
+use Rattle.compare.proofs.same.Reads as same-reads
 
 add-end : tie.Need-add-end
 add-end c = search needs

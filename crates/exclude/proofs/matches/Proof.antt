@@ -6,7 +6,7 @@ use Rattle.exclude.proofs.matches.Statement.{statement}
 use Rattle.exclude.proofs.matches.Tie as tie
 use Rattle.exclude.proofs.glob_matches.Reads as glob-matches-reads
 use Rattle.exclude.proofs.literal_matches.Reads as literal-matches-reads
-use Rattle.text.proofs.same.Reads as same-reads
+use Rattle.compare.proofs.same.Reads as same-reads
 
 enum-told : tie.Need-enum-told
 enum-told c = search needs

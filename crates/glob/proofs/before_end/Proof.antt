@@ -4,7 +4,7 @@ use borrow.Author.Needs.{needs}
 use borrow.Author.Needs.{needs}
 use Rattle.glob.proofs.before_end.Statement.{statement}
 use Rattle.glob.proofs.before_end.Tie as tie
-use Rattle.text.proofs.ends.Reads as ends-reads
+use Rattle.compare.proofs.ends.Reads as ends-reads
 
 sub-ends : tie.Need-sub-ends
 sub-ends c = search needs

@@ -5,7 +5,7 @@ use borrow.Author.Needs.{needs}
 use Rattle.glob.proofs.capture.Statement.{statement}
 use Rattle.glob.proofs.capture.Tie as tie
 use Rattle.glob.proofs.before_end.Reads as before-end-reads
-use Rattle.text.proofs.begins.Reads as begins-reads
+use Rattle.compare.proofs.begins.Reads as begins-reads
 
 begins-requires : tie.Need-begins-requires
 begins-requires c κs = search needs

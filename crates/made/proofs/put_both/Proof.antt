@@ -1,5 +1,5 @@
 -- The second stands right after the first. Assumes nothing.
-use Rattle.text.proofs.Pairs.{pair-first, pair-second, pair-put, pair-end}
+use Rattle.buffer.proofs.Pairs.{pair-first, pair-second, pair-put, pair-end}
 use borrow.Author.Needs.{needs}
 use Rattle.made.proofs.put_both.Statement.{statement}
 use Rattle.made.proofs.put_both.Tie as tie

@@ -1,5 +1,5 @@
 -- The second stands right after the first. Assumes nothing.
-use Rattle.text.proofs.Pairs.{pair-first, pair-put, pair-end}
+use Rattle.buffer.proofs.Pairs.{pair-first, pair-put, pair-end}
 use Rattle.made.proofs.Writes.{lower-second}
 use borrow.Author.Needs.{needs}
 use Rattle.made.proofs.put_both_lower.Statement.{statement}

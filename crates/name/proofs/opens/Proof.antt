@@ -4,7 +4,7 @@ use Rattle.text.proofs.Rows.{row}
 use borrow.Author.Needs.{needs}
 use Rattle.name.proofs.opens.Statement.{statement}
 use Rattle.name.proofs.opens.Tie as tie
-use Rattle.text.proofs.same.Reads as same-reads
+use Rattle.compare.proofs.same.Reads as same-reads
 
 after-slash-requires : tie.Need-after-slash-requires
 after-slash-requires c κs = search needs

@@ -3,8 +3,8 @@ use Rattle.name.proofs.After.{lock-whole, lock-slash}
 use borrow.Author.Needs.{needs}
 use Rattle.name.proofs.rest_of_lock.Statement.{statement}
 use Rattle.name.proofs.rest_of_lock.Tie as tie
-use Rattle.text.proofs.begins.Reads as begins-reads
-use Rattle.text.proofs.same.Reads as same-reads
+use Rattle.compare.proofs.begins.Reads as begins-reads
+use Rattle.compare.proofs.same.Reads as same-reads
 
 slice-aggregate-same : tie.Need-slice-aggregate-same
 slice-aggregate-same c = search needs

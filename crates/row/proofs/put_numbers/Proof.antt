@@ -1,5 +1,5 @@
 -- Each number is written right after the one before it. Assumes nothing.
-use Rattle.text.proofs.Threes.{three-first, three-second, three-third, three-put, three-end}
+use Rattle.buffer.proofs.Threes.{three-first, three-second, three-third, three-put, three-end}
 use borrow.Author.Needs.{needs}
 use Rattle.row.proofs.put_numbers.Statement.{statement}
 use Rattle.row.proofs.put_numbers.Tie as tie

@@ -3,7 +3,7 @@ use Rattle.conflicts.proofs.Pieces.{text-number-room, text-bytes-room, 
 use borrow.Author.Needs.{needs}
 use Rattle.conflicts.proofs.sources.put_text.Statement.{statement}
 use Rattle.conflicts.proofs.sources.put_text.Tie as tie
-use Rattle.text.proofs.put.Reads as put-reads′
+use Rattle.buffer.proofs.put.Reads as put-reads′
 
 put-requires : tie.Need-put-requires
 put-requires c κs = (search needs, search text-number-room)

@@ -4,7 +4,7 @@ use borrow.Author.Needs.{needs}
 use Rattle.exclude.proofs.pieces.pieces_begin.Statement.{statement}
 use Rattle.exclude.proofs.pieces.pieces_begin.Tie as tie
 use Rattle.exclude.proofs.pieces.two_begin.Reads as two-begin-reads
-use Rattle.text.proofs.begins.Reads as begins-reads
+use Rattle.compare.proofs.begins.Reads as begins-reads
 
 begins-requires : tie.Need-begins-requires
 begins-requires c κs = search needs

@@ -4,7 +4,7 @@ use borrow.Author.Needs.{needs}
 use Rattle.exclude.proofs.pieces.pieces_end.Statement.{statement}
 use Rattle.exclude.proofs.pieces.pieces_end.Tie as tie
 use Rattle.exclude.proofs.pieces.two_end.Reads as two-end-reads
-use Rattle.text.proofs.ends.Reads as ends-reads
+use Rattle.compare.proofs.ends.Reads as ends-reads
 
 ends-requires : tie.Need-ends-requires
 ends-requires c κs = search needs

@@ -4,7 +4,7 @@ use borrow.Author.Needs.{needs}
 use Rattle.exclude.proofs.pieces.pieces_same.Statement.{statement}
 use Rattle.exclude.proofs.pieces.pieces_same.Tie as tie
 use Rattle.exclude.proofs.pieces.is_sum.Reads as is-sum-reads
-use Rattle.text.proofs.begins.Reads as begins-reads
+use Rattle.compare.proofs.begins.Reads as begins-reads
 
 is-sum-requires : tie.Need-is-sum-requires
 is-sum-requires c κs = search needs

@@ -3,7 +3,7 @@ use Rattle.exclude.proofs.Joined.{begins-short, begins-not, begins-on}
 use borrow.Author.Needs.{needs}
 use Rattle.exclude.proofs.pieces.two_begin.Statement.{statement}
 use Rattle.exclude.proofs.pieces.two_begin.Tie as tie
-use Rattle.text.proofs.begins.Reads as begins-reads
+use Rattle.compare.proofs.begins.Reads as begins-reads
 
 begins-requires : tie.Need-begins-requires
 begins-requires c κs = search needs

@@ -3,7 +3,7 @@ use Rattle.exclude.proofs.Joined.{taken-before, ends-short, ends-not, e
 use borrow.Author.Needs.{needs}
 use Rattle.exclude.proofs.pieces.two_end.Statement.{statement}
 use Rattle.exclude.proofs.pieces.two_end.Tie as tie
-use Rattle.text.proofs.ends.Reads as ends-reads
+use Rattle.compare.proofs.ends.Reads as ends-reads
 
 ends-requires : tie.Need-ends-requires
 ends-requires c κs = search needs

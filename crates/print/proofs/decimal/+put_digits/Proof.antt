@@ -9,7 +9,7 @@ use Rattle.print.proofs.decimal.put_digits.Reads as put-digits
 use Rattle.print.proofs.decimal.put_digits.Kinds as put-digits-kinds
 use Rattle.print.proofs.decimal.+put_digits.Lts-put_digits as put-digits-lts
 use Rattle.print.proofs.decimal.last_digit.Reads as last-digit-reads
-use Rattle.text.proofs.put_byte.Reads as put-byte-reads
+use Rattle.buffer.proofs.put_byte.Reads as put-byte-reads
 use Rattle.print.proofs.decimal.+put_digits.{statement}
 use Rattle.print.proofs.decimal.+put_digits.Tie.{close}
 

@@ -1,5 +1,5 @@
 -- `print::line::put_start` meets its contract: three fields, one after the other.
-use Rattle.text.proofs.Threes.{three-first, three-second, three-third, three-put, three-end}
+use Rattle.buffer.proofs.Threes.{three-first, three-second, three-third, three-put, three-end}
 use Rattle.print.specs.Lines.{lineStart}
 use borrow.Author.Needs.{needs}
 use Rattle.print.proofs.line.put_start.Statement.{statement}

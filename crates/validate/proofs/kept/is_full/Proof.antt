@@ -3,8 +3,8 @@ use Rattle.validate.proofs.Full.{full-refs, full-head}
 use borrow.Author.Needs.{needs}
 use Rattle.validate.proofs.kept.is_full.Statement.{statement}
 use Rattle.validate.proofs.kept.is_full.Tie as tie
-use Rattle.text.proofs.begins.Reads as begins-reads
-use Rattle.text.proofs.same.Reads as same-reads
+use Rattle.compare.proofs.begins.Reads as begins-reads
+use Rattle.compare.proofs.same.Reads as same-reads
 
 slice-aggregate-begins : tie.Need-slice-aggregate-begins
 slice-aggregate-begins c = search needs

@@ -4,7 +4,7 @@ use borrow.Author.Needs.{needs}
 use Rattle.validate.proofs.kept.put_name_fix.Statement.{statement}
 use Rattle.validate.proofs.kept.put_name_fix.Tie as tie
 use Rattle.number.proofs.put.Reads as put-reads
-use Rattle.text.proofs.put.Reads as put-reads′
+use Rattle.buffer.proofs.put.Reads as put-reads′
 use Rattle.validate.proofs.kept.is_full_at.Reads as is-full-at-reads
 
 is-full-at-requires : tie.Need-is-full-at-requires

@@ -1,5 +1,5 @@
 -- The side is written right after the colon. Assumes nothing.
-use Rattle.text.proofs.Pairs.{pair-first, pair-second, pair-put, pair-end}
+use Rattle.buffer.proofs.Pairs.{pair-first, pair-second, pair-put, pair-end}
 use borrow.Author.Needs.{needs}
 use Rattle.write.proofs.canonical.put_back.Statement.{statement}
 use Rattle.write.proofs.canonical.put_back.Tie as tie

@@ -1,0 +1,2 @@
+-- What contracts on a buffer cite: a text written into it.
+pub mod Splice

@@ -1,0 +1,2 @@
+-- `Orders`: byte order.
+pub mod Orders

@@ -1,0 +1,3 @@
+-- `Blocks`: a text that begins with another. `Sames`: texts of one length.
+pub mod Blocks
+pub mod Sames

@@ -1,0 +1,2 @@
+-- `Words`: several bytes as one number.
+pub mod Words

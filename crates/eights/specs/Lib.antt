@@ -1,0 +1,2 @@
+-- What the contracts cite: several bytes as one number.
+pub mod Word

@@ -1,0 +1,13 @@
+-- `last::later` meets its contract: it is the definition.
+use Rattle.last.proofs.Halves.{later-first, later-second}
+use Rattle.last.proofs.later.Statement.{statement}
+use Rattle.last.proofs.later.Tie as tie
+
+returns : tie.Need-returns
+returns c = search later-second
+
+returns-2 : tie.Need-returns-2
+returns-2 c = search later-first
+
+pub later-spec : {M : Type 1} → statement M
+later-spec = tie.close (tie.spec returns returns-2)

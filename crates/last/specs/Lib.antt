@@ -1,0 +1,2 @@
+-- What the contracts cite beside the meaning: the last place of a byte.
+pub mod Last
