@@ -12,9 +12,10 @@ use lib.Seq.{drop-drop}
 use Rattle.meaning.specs.Bytes.{Text}
 use Rattle.promises.proofs.Laws.{same-refl}
 use Rattle.text.proofs.Rests.{rest-cons, rest-end}
-use Rattle.order.specs.declared.key.Key.the-variants.{Place, Source}
+use Rattle.keys.specs.declared.key.Key.the-variants.{Place, Source}
 use Rattle.order.specs.Sorting.{insertBy, sortBy, runOf, headsAfter, heads}
-use Rattle.order.specs.Keys.{keyAt, sameAt, notAfter, sortPlaces}
+use Rattle.keys.specs.Keys.{keyAt, sameAt, notAfter}
+use Rattle.order.specs.Keys.{sortPlaces}
 use Rattle.order.proofs.Heads.{heads-sort, place-sort}
 use Rattle.conflicts.specs.declared.sources.HeadsSize.{HeadsSize}
 use Rattle.conflicts.specs.Indexed.{OneRun, runBytes, sourceAt, sourcesAt, firstsAt, Heads}

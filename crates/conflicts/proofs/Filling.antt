@@ -20,7 +20,7 @@ use Rattle.list.specs.declared.rows.RowStep.{RowStep}
 use Rattle.list.specs.declared.rows.RowStep.the-variants.{Row, End, Refused}
 use Rattle.list.specs.Rows.{rowMeant, rowStepAt, RowTaken, RowSays}
 use Rattle.order.specs.Sorting.{Above, Ascending}
-use Rattle.order.specs.Keys.{rowOr, rowAt}
+use Rattle.keys.specs.Keys.{rowOr, rowAt}
 use Rattle.conflicts.specs.Listed.{rowsIn, RowsRead, InList}
 use Rattle.conflicts.specs.Indexed.{rowsAt, hasDestination, Given, Indexed, Stored}
 use Rattle.conflicts.proofs.Walks.{At, at-start, next-row, next-destination, moves-on, end-row, refused-row, taken}

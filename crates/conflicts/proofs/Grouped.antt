@@ -9,9 +9,9 @@ use Rattle.meaning.specs.Bytes.{Text, keep, each, same, present, orEmpty}
 use Rattle.meaning.specs.Rows.{Row}
 use Rattle.meaning.specs.Validation.{onto, isText, rowsOnto, inConflict, conflictOn}
 use Rattle.promises.proofs.Laws.{same-is, same-refl}
-use Rattle.order.specs.declared.key.Key.the-variants.{Destination}
+use Rattle.keys.specs.declared.key.Key.the-variants.{Destination}
 use Rattle.order.specs.Sorting.{Below, Sorted, runOf, runNext, headsAfter, heads, Ascending}
-use Rattle.order.specs.Keys.{rowAt, keyAt, sameAt, notAfter}
+use Rattle.keys.specs.Keys.{rowAt, keyAt, sameAt, notAfter}
 use Rattle.order.proofs.Sorts.{clash}
 use Rattle.order.proofs.Runs.{group-run}
 use Rattle.order.proofs.Heads.{Apart, apart-below, apart-heads}

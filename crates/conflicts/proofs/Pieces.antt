@@ -14,8 +14,8 @@ use Rattle.buffer.proofs.Writing.{Writing, writing-starts, writing-room, writin
 use Rattle.number.proofs.Bytes.{bytes-few}
 use Rattle.number.proofs.Texts.{text-size, number-room, text-room, text-put, text-ends}
 use Rattle.parse.specs.Places.{partAt}
-use Rattle.order.specs.declared.fields.RowFields.{RowFields}
-use Rattle.order.specs.Keys.{rowAt, Finds}
+use Rattle.keys.specs.declared.fields.RowFields.{RowFields}
+use Rattle.keys.specs.Keys.{rowAt, Finds}
 use Rattle.conflicts.specs.Indexed.{sourceAt}
 use Rattle.conflicts.proofs.Parts.{part-is, part-long}
 

@@ -21,10 +21,10 @@ use Rattle.buffer.proofs.Splices.{splice-none}
 use Rattle.buffer.proofs.Writing.{Writing, writing-starts, writing-room, writing-more, written-place, written-whole}
 use Rattle.number.proofs.Bytes.{bytes-few}
 use Rattle.parse.specs.Places.{partAt}
-use Rattle.order.specs.declared.fields.RowFields.{RowFields}
-use Rattle.order.specs.declared.key.Key.the-variants.{Source}
+use Rattle.keys.specs.declared.fields.RowFields.{RowFields}
+use Rattle.keys.specs.declared.key.Key.the-variants.{Source}
 use Rattle.order.specs.Sorting.{firstsBy}
-use Rattle.order.specs.Keys.{rowAt, Finds, sameAt}
+use Rattle.keys.specs.Keys.{rowAt, Finds, sameAt}
 use Rattle.conflicts.specs.Listed.{conflictPart}
 use Rattle.conflicts.specs.FirstSeen.{sourcesOn, sourcesBytes, listedBytes}
 use Rattle.conflicts.specs.Indexed.{rowsAt, destinationAt, OneRun, runBytes, headAt, listedAt, sourcesAt, firstsAt}

@@ -21,9 +21,9 @@ use Rattle.buffer.specs.Splice.{splice}
 use Rattle.buffer.proofs.Splices.{splice-none}
 use Rattle.text.proofs.Rests.{rest-cons, rest-end}
 use Rattle.buffer.proofs.Writing.{Writing, writing-starts, writing-room, writing-more, written-whole}
-use Rattle.order.specs.declared.key.Key.the-variants.{Destination}
+use Rattle.keys.specs.declared.key.Key.the-variants.{Destination}
 use Rattle.order.specs.Sorting.{insertBy, sortBy, Sorted, runOf, heads, Ascending}
-use Rattle.order.specs.Keys.{rowAt, sameAt, notAfter}
+use Rattle.keys.specs.Keys.{rowAt, sameAt, notAfter}
 use Rattle.order.proofs.Sorts.{sorted-sort}
 use Rattle.order.proofs.Keys.{keys-order}
 use Rattle.order.proofs.Runs.{group-kept}

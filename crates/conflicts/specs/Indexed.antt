@@ -10,9 +10,10 @@ use Rattle.meaning.specs.Rows.{Row}
 use Rattle.meaning.specs.Validation.{rowsOnto}
 use Rattle.parse.specs.declared.types.Side.{Side}
 use Rattle.parse.specs.declared.types.Side.the-variants.{Absent, Part, Head}
-use Rattle.order.specs.declared.key.Key.the-variants.{Destination, Source}
+use Rattle.keys.specs.declared.key.Key.the-variants.{Destination, Source}
 use Rattle.order.specs.Sorting.{Ascending, heads, firstsBy}
-use Rattle.order.specs.Keys.{rowAt, sameAt, sortPlaces}
+use Rattle.keys.specs.Keys.{rowAt, sameAt}
+use Rattle.order.specs.Keys.{sortPlaces}
 use Rattle.conflicts.specs.declared.sources.HeadsSize.{HeadsSize}
 use Rattle.conflicts.specs.Listed.{rowsIn, conflictPart}
 use Rattle.conflicts.specs.FirstSeen.{rowSourceBytes, sourcesBytes, listedBytes}

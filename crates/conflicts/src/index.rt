@@ -7,10 +7,10 @@ ghost use Rattle.conflicts.specs.Listed.{rowsIn, RowsRead, conflictsByte
 ghost use Rattle.conflicts.specs.Indexed.{Indexed, SortedIndex, Stored};
 use super::conflict::put_run;
 use super::conflict::run_size;
+use keys::key::Key;
 use list::cursor::Cursor;
 use list::rows::RowStep;
 use list::rows::next_row;
-use order::key::Key;
 use order::run::run_end;
 use order::sort::sort;
 use parse::types::Side;

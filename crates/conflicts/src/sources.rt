@@ -6,8 +6,8 @@ ghost use Rattle.buffer.specs.Splice.{splice};
 ghost use Rattle.parse.specs.Places.{partAt};
 ghost use Rattle.meaning.specs.Number.{textBytes};
 ghost use Rattle.conflicts.specs.Indexed.{sourceAt, sourcesAt, Heads};
-use order::fields::fields;
-use order::key::Key;
+use keys::fields::fields;
+use keys::key::Key;
 use order::run::run_end;
 
 // Of places sorted by source: how many are the first of theirs, and how many bytes the sources take.

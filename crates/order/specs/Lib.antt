@@ -1,5 +1,3 @@
--- `Sorting`: the stable sort of a list, the merge of two, runs and firsts. `Keys`: what stands at a place, and the keys by which places are
--- ordered. `Stages`: a row read on after each of its parts, and what a part leaves.
+-- `Sorting`: the stable sort of a list, the merge of two, runs and firsts. `Keys`: places in the order of their keys.
 pub mod Sorting
 pub mod Keys
-pub mod Stages
