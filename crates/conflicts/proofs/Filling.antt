@@ -22,7 +22,8 @@ use Rattle.list.specs.Rows.{rowMeant, rowStepAt, RowTaken, RowSays}
 use Rattle.order.specs.Sorting.{Above, Ascending}
 use Rattle.keys.specs.Keys.{rowOr, rowAt}
 use Rattle.conflicts.specs.Listed.{rowsIn, RowsRead, InList}
-use Rattle.conflicts.specs.Indexed.{rowsAt, hasDestination, Given, Indexed, Stored}
+use Rattle.conflict.specs.Shared.{rowsAt}
+use Rattle.conflicts.specs.Indexed.{hasDestination, Given, Indexed, Stored}
 use Rattle.conflicts.proofs.Walks.{At, at-start, next-row, next-destination, moves-on, end-row, refused-row, taken}
 
 -- a place as it is stored

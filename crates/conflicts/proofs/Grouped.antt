@@ -15,8 +15,9 @@ use Rattle.keys.specs.Keys.{rowAt, keyAt, sameAt, notAfter}
 use Rattle.order.proofs.Sorts.{clash}
 use Rattle.order.proofs.Runs.{group-run}
 use Rattle.order.proofs.Heads.{Apart, apart-below, apart-heads}
-use Rattle.conflicts.specs.Listed.{conflictPart}
-use Rattle.conflicts.specs.Indexed.{rowsAt, destinationAt, hasDestination, Given, OneRun, runBytes}
+use Rattle.conflict.specs.Shared.{conflictPart}
+use Rattle.conflict.specs.Shared.{rowsAt, destinationAt, OneRun, runBytes}
+use Rattle.conflicts.specs.Indexed.{hasDestination, Given}
 
 -- a conflict depends on the rows of its destination only
 pub part-by : (a b : List Row) (d : Text) → rowsOnto a d ≡ rowsOnto b d → conflictPart a d ≡ conflictPart b d

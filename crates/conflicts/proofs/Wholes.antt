@@ -28,9 +28,11 @@ use Rattle.order.proofs.Sorts.{sorted-sort}
 use Rattle.order.proofs.Keys.{keys-order}
 use Rattle.order.proofs.Runs.{group-kept}
 use Rattle.order.proofs.Heads.{ascending-keep}
-use Rattle.conflicts.specs.Listed.{rowsIn, conflictsBytes, conflictPart, putIfRoom}
-use Rattle.conflicts.specs.Indexed.{rowsAt, destinationAt, hasDestination, Given, SortedIndex, OneRun, runBytes}
-use Rattle.conflicts.proofs.Shares.{each-map}
+use Rattle.conflicts.specs.Listed.{rowsIn, conflictsBytes, putIfRoom}
+use Rattle.conflict.specs.Shared.{conflictPart}
+use Rattle.conflict.specs.Shared.{rowsAt, destinationAt, OneRun, runBytes}
+use Rattle.conflicts.specs.Indexed.{hasDestination, Given, SortedIndex}
+use Rattle.conflict.proofs.Shares.{each-map}
 use Rattle.conflicts.proofs.InOrder.{in-order}
 use Rattle.conflicts.proofs.Grouped.{part-by, walk, walk-run, onto-keep, onto-again, run-shares}
 

@@ -8,7 +8,7 @@ use lib.ListN.{length}
 use Rattle.meaning.specs.Bytes.{Text, each}
 use Rattle.meaning.specs.Spec.{Answer, accepted, refused}
 use Rattle.meaning.specs.Rows.{Row, readRows}
-use Rattle.meaning.specs.Validation.{inConflict, conflictOn, conflicts, conflictBytes}
+use Rattle.meaning.specs.Validation.{conflicts, conflictBytes}
 use Rattle.buffer.specs.Splice.{splice}
 use Rattle.parse.specs.declared.types.Side.{Side}
 use Rattle.parse.specs.declared.types.Side.the-variants.{Absent, Part, Head}
@@ -30,10 +30,6 @@ pub record RowsRead (specs : ℕ) (s : Text) : Type 0 where
 -- the bytes of the conflicts of rows
 unfoldable pub conflictsBytes : List Row → Text
 conflictsBytes rows = each (conflicts rows) conflictBytes
-
--- the bytes of the conflict on a destination, if it is in conflict
-unfoldable pub conflictPart : List Row → Text → Text
-conflictPart rows d = cond (inConflict rows d) (conflictBytes (conflictOn rows d)) []
 
 -- a buffer after a text was written at its start, if it has room for all of it
 unfoldable pub putIfRoom : Text → Text → Text

@@ -4,10 +4,8 @@ ghost use mathlib.Core.Path.{_≡_};
 ghost use lib.ListN.{length};
 ghost use Rattle.conflicts.specs.Listed.{rowsIn, RowsRead, conflictsBytes, putIfRoom};
 
-mod conflict;
 mod index;
 mod rooms;
-mod sources;
 
 use rooms::put_few;
 use rooms::put_many;

@@ -1,0 +1,3 @@
+-- `FirstSeen`: the sources of a destination, each once. `Shared`: places of rows that share a destination, and the bytes of their conflict.
+pub mod FirstSeen
+pub mod Shared
