@@ -1,3 +1,2 @@
--- `Rows`: what a row gives to the kept rows and to the fixes. `Answers`: the numbers that a call answers where it writes nothing.
-pub mod Rows
+-- `Answers`: the numbers that a call answers where it writes nothing.
 pub mod Answers

@@ -11,9 +11,6 @@ ghost use Rattle.meaning.specs.Entries.{verdictBytes, validated};
 ghost use Rattle.meaning.specs.Buffers.{MeetsTwo};
 ghost use Rattle.conflicts.specs.Listed.{rowsIn, RowsRead};
 ghost use Rattle.validate.specs.Answers.{refusedWith, shortOf};
-
-pub mod kept;
-
 use conflicts::put_conflicts;
 use kept::measure;
 use kept::put_rows;

@@ -1,0 +1,2 @@
+-- `Rows`: what a row gives to the kept rows and to the fixes.
+pub mod Rows
