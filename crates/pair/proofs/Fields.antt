@@ -13,7 +13,7 @@ use Rattle.meaning.specs.Listing.{Ends, nameRow}
 use Rattle.buffer.specs.Splice.{splice}
 use Rattle.matcher.specs.declared.types.Made.{Made}
 use Rattle.matcher.specs.Matching.{MadeWithin, objectEnds, objectRowOf}
-use Rattle.matcher.proofs.Objects.{object-rows}
+use Rattle.matched.proofs.Objects.{object-rows}
 use Rattle.row.specs.Rows.{RowWithin, rowMeant}
 use Rattle.pair.specs.Pairs.{endsIn, rowUnless, itemBytes, objectBytes, kindOf, fieldRow, givenRow, fieldPlaces, fieldBytes}
 use Rattle.pair.specs.Asking.{Put}

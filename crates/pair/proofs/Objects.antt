@@ -14,7 +14,7 @@ use Rattle.matcher.specs.declared.types.Made.{Made}
 use Rattle.matcher.specs.declared.types.Ends.{Ends}
 use Rattle.matcher.specs.declared.types.Ends.the-variants.{Nothing, Row as Found}
 use Rattle.matcher.specs.Matching.{madeMeant, endsMeant, MadeWithin, EndsWithin, Matches, objectEnds}
-use Rattle.matcher.proofs.Objects.{object-rows}
+use Rattle.matched.proofs.Objects.{object-rows}
 use Rattle.row.specs.Rows.{Lent, RowWithin, rowMeant}
 use Rattle.pair.specs.Pairs.{specOf, objectBytes, fieldPlaces}
 use Rattle.pair.specs.Asking.{Ready}

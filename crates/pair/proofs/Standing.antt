@@ -16,7 +16,7 @@ use Rattle.matcher.specs.declared.types.Made.{Made}
 use Rattle.matcher.specs.declared.types.Ends.{Ends}
 use Rattle.matcher.specs.declared.types.Ends.the-variants.{Nothing, Row as Found}
 use Rattle.matcher.specs.Matching.{madeMeant, endsMeant, MadeWithin, EndsWithin, Matches, objectEnds}
-use Rattle.matcher.specs.Known.{KnownForward, KnownReverse}
+use Rattle.matched.specs.Known.{KnownForward, KnownReverse}
 use Rattle.row.specs.Rows.{Lent, rowMeant}
 use Rattle.pair.specs.Pairs.{specOf, endsIn, fieldEnds, givenRow, fieldPlaces, fieldBytes}
 use Rattle.pair.specs.Asking.{Ready, FieldTold, Put}

@@ -15,11 +15,11 @@ ghost use Rattle.pair.specs.Asking.{Askable, Ready, EndsTold, FieldTold,
 mod gone;
 
 use gone::removed;
-use matcher::forward;
-use matcher::known_forward;
-use matcher::known_reverse;
-use matcher::object;
-use matcher::reverse;
+use matched::forward;
+use matched::known_forward;
+use matched::known_reverse;
+use matched::object;
+use matched::reverse;
 use matcher::types::Ends;
 use matcher::types::Made;
 use matcher::types::Matcher;
