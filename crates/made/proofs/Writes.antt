@@ -7,6 +7,7 @@ use mathlib.Core.List.{[], _++_, append-nil}
 use mir.Val.{Fits}
 use mir.Syntax.{w64}
 use lib.ListN.{length, length-append}
+use lib.Seq.{take-all}
 use Rattle.meaning.specs.Bytes.{Text, bytes, orEmpty, lower}
 use Rattle.meaning.specs.Limits.{listBytes, nameBytes}
 use Rattle.buffer.specs.Splice.{splice}
@@ -70,8 +71,8 @@ module _ (specs name : Text) (m : Made) where
     pub name-size : length name ≡ length (orEmpty (madeMeant specs name m))
     name-size = rw is
 
-    pub name-text : name ≡ orEmpty (madeMeant specs name m)
-    name-text = rw is
+    pub name-text : partAt name 0 (length name) ≡ orEmpty (madeMeant specs name m)
+    name-text = rw is (take-all (length name) name (omega arith))
 
   pub nothing-text : m ≡ made.Absent → [] ≡ orEmpty (madeMeant specs name m)
   nothing-text is = rw is

@@ -144,7 +144,8 @@ pub fn put_made(out: &mut [u8], at: usize, specs: &[u8], name: &[u8], made: Made
 {
     match made {
         Made::Absent => at,
-        Made::Name => buffer::put(out, at, name),
+        // A part is lent by its place and length: the slice `name`, just stored in two halves, is slow to load in one.
+        Made::Name => put_part(out, at, name, 0, name.len()),
         Made::Led(lead, side) => put_led(out, at, specs, lead, side),
         Made::Filled {
             start,

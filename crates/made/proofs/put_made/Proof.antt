@@ -10,8 +10,8 @@ enum-told c = search needs
 enum-told-2 : tie.Need-enum-told-2
 enum-told-2 c = search needs
 
-put-requires : tie.Need-put-requires
-put-requires c κs = search (room-as, name-text)
+put-part-requires : tie.Need-put-part-requires
+put-part-requires c κs = (search needs, search (room-as, name-text))
 
 enum-known-made : tie.Need-enum-known-made
 enum-known-made c = search needs
@@ -52,7 +52,7 @@ put-made-spec =
     (tie.spec
     enum-told
     enum-told-2
-    put-requires
+    put-part-requires
     enum-known-made
     put-led-requires
     enum-known-made-2
