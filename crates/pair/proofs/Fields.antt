@@ -1,7 +1,7 @@
 -- The row with an item field: an object's, or a name's. Assumes nothing.
-use mathlib.Core.Path.{_≡_, refl, sym, ap, _∙_}
+use mathlib.Core.Path.{_≡_, refl}
 use mathlib.Core.Bool.{Bool, true, false, cond}
-use mathlib.Core.List.{[], _∷_, _++_}
+use mathlib.Core.List.{[], _++_}
 use mathlib.Core.Option.{Option, none, some}
 use Prim.Native.Nat.{ℕ, zero, suc, _+_, _≤_, _<_}
 use native.Mathlib.Omega.{arith}
@@ -12,10 +12,10 @@ use Rattle.meaning.specs.Rows.{Row, rowBytes, rowListOf}
 use Rattle.meaning.specs.Listing.{Ends, nameRow}
 use Rattle.buffer.specs.Splice.{splice}
 use Rattle.matcher.specs.declared.types.Made.{Made}
-use Rattle.matcher.specs.Matching.{MadeWithin, objectEnds, objectRowOf}
+use Rattle.matcher.specs.Matching.{objectEnds, objectRowOf}
 use Rattle.matched.proofs.Objects.{object-rows}
-use Rattle.row.specs.Rows.{RowWithin, rowMeant}
-use Rattle.pair.specs.Pairs.{endsIn, rowUnless, itemBytes, objectBytes, kindOf, fieldRow, givenRow, fieldPlaces, fieldBytes}
+use Rattle.row.specs.Rows.{rowMeant}
+use Rattle.pair.specs.Pairs.{endsIn, rowUnless, itemBytes, objectBytes, kindOf, fieldRow, givenRow, fieldBytes}
 use Rattle.pair.specs.Asking.{Put}
 
 pub kind-of-name : (field : ℕ) → (field ≡ 0 → ⊥) → 0 ≡ kindOf field
@@ -23,15 +23,12 @@ kind-of-name zero n = absurd (n refl)
 kind-of-name (suc j) n = refl
 
 -- the row as it is put together
-pub field-within : (len nameLen i field kind : ℕ) (source destination : Made) → i ≤ 256 → field ≤ 1024 → kind ≤ 1 → MadeWithin len nameLen source → MadeWithin len nameLen destination → RowWithin len nameLen (record { item = field; spec = i; kind = kind; source = source; destination = destination })
-field-within len nameLen i field kind source destination h k l s d = record { item-small = k; spec-small = h; kind-small = l; source-within = s; destination-within = d }
-
 module _ (specs name : Text) (i field kind : ℕ) (source destination : Made) (e : kind ≡ kindOf field) (d : Text) (at : ℕ) where
-  pub field-room : at + length (rowBytes (rowMeant specs name (fieldPlaces i field source destination))) ≤ length d → at + length (rowBytes (rowMeant specs name (record { item = field; spec = i; kind = kind; source = source; destination = destination }))) ≤ length d
+  pub field-room : at + length (rowBytes (rowMeant specs name field i (kindOf field) source destination)) ≤ length d → at + length (rowBytes (rowMeant specs name field i kind source destination)) ≤ length d
   field-room h = rw e h
 
-  pub field-put : (o : Text) (n : ℕ) → o ≡ splice d at (rowBytes (rowMeant specs name (record { item = field; spec = i; kind = kind; source = source; destination = destination }))) → n ≡ at + length (rowBytes (rowMeant specs name (record { item = field; spec = i; kind = kind; source = source; destination = destination })))
-      → Put d at (rowBytes (rowMeant specs name (fieldPlaces i field source destination))) o n
+  pub field-put : (o : Text) (n : ℕ) → o ≡ splice d at (rowBytes (rowMeant specs name field i kind source destination)) → n ≡ at + length (rowBytes (rowMeant specs name field i kind source destination))
+      → Put d at (rowBytes (rowMeant specs name field i (kindOf field) source destination)) o n
   field-put o n p q = record { puts = rw e at p; ends = rw e at q }
 
 -- a row that takes bytes is the one of its item field, whatever is gone

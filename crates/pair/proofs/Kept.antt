@@ -1,16 +1,15 @@
 -- The row of a name under a spec stands, or is gone. Assumes nothing.
-use mathlib.Core.Path.{_≡_, refl, sym, ap, _∙_, subst}
-use mathlib.Core.Bool.{Bool, true, false, cond}
-use mathlib.Core.List.{List, [], _∷_, _++_, append-nil}
-use mathlib.Core.Option.{Option, none, some}
-use Prim.Native.Nat.{ℕ, zero, suc, _+_, _≤_, _<_}
+use mathlib.Core.Path.{_≡_, sym, ap, _∙_, subst}
+use mathlib.Core.Bool.{Bool, true, false}
+use mathlib.Core.List.{append-nil}
+use mathlib.Core.Option.{none, some}
+use Prim.Native.Nat.{ℕ, _+_, _≤_}
 use native.Mathlib.Omega.{arith}
 use native.Mathlib.Numerals.{add-one}
 use lib.ListN.{length}
 use Rattle.meaning.specs.Bytes.{Text, orEmpty}
 use Rattle.meaning.specs.Spec.{Spec}
 use Rattle.meaning.specs.Rows.{rowBytes}
-use Rattle.meaning.specs.Listing as listing
 use Rattle.meaning.specs.Listing.{forwardEnds, reverseEnds}
 use Rattle.promises.proofs.Fitting.{Short, reverse-length}
 use Rattle.promises.proofs.Listings.{forward-made, reverse-made}
@@ -19,8 +18,7 @@ use Rattle.matcher.specs.declared.types.Made.{Made}
 use Rattle.matcher.specs.declared.types.Ends.{Ends}
 use Rattle.matcher.specs.declared.types.Ends.the-variants.{Nothing, Row as Found}
 use Rattle.matcher.specs.Matching.{madeMeant, endsMeant, MadeWithin, EndsWithin, Matches}
-use Rattle.row.specs.declared.Row.{Row}
-use Rattle.row.specs.Rows.{Lent, RowWithin, rowMeant}
+use Rattle.row.specs.Rows.{Lent, rowMeant}
 use Rattle.pair.specs.Pairs.{specOf, endsIn, itemBytes, keptBytes}
 use Rattle.pair.specs.Asking.{Ready, EndsTold}
 
@@ -33,15 +31,11 @@ module _ (specs name : Text) (m : Matcher) (back : Bool) (r : Ends) (ready : Rea
   ends-on e h = record { told = rw e (h (specOf specs m) (ready .matches)); within = w }
 
 -- the row of item j under spec i
-pub row-within : (len nameLen i j : ℕ) (source destination : Made) → i ≤ 256 → j < 1024 → MadeWithin len nameLen source → MadeWithin len nameLen destination → RowWithin len nameLen (record { item = j + 1; spec = i; kind = 0; source = source; destination = destination })
-row-within len nameLen i j source destination h k s d = record { item-small = omega arith; spec-small = h; kind-small = omega arith; source-within = s; destination-within = d }
-
 module _ (gone : Text → Bool) (i j : ℕ) (specs name : Text) (source destination : Made) (r : Bool) (er : r ≡ gone (orEmpty (madeMeant specs name source))) where
   pub gone-size : r ≡ true → 0 ≡ length (keptBytes gone i j specs name source destination)
   gone-size t = rw (sym er ∙ t)
 
-  pub kept-size : r ≡ false → (n : ℕ) → n ≡ length (rowBytes (rowMeant specs name (record { item = j + 1; spec = i; kind = 0; source = source; destination = destination }))) → n ≡ length (keptBytes gone i j specs name source destination)
-  unfolding rowMeant
+  pub kept-size : r ≡ false → (n : ℕ) → n ≡ length (rowBytes (rowMeant specs name (j + 1) i 0 source destination)) → n ≡ length (keptBytes gone i j specs name source destination)
   kept-size t n e = rw (sym er ∙ t, ← add-one j) e
 
 pub lent-is : (specs name : Text) (m : Matcher) → Ready specs m → length name ≤ 4096 → Lent specs name
@@ -60,7 +54,7 @@ module _ (back : Bool) (gone : Text → Bool) (specs name : Text) (m : Matcher) 
     ends-are = sym (t .told) ∙ ap (endsMeant specs name) is
 
     pub row-measured : (n : ℕ) → n ≡ length (keptBytes gone i j specs name source destination) → n ≡ length (itemBytes back gone i j name (specOf specs m))
-    unfolding itemBytes
+    unfolding itemBytes rowMeant
     row-measured n h = rw (ends-are, append-nil (keptBytes gone i j specs name source destination)) h
 
     both : EndsWithin (length specs) (length name) (Found source destination)

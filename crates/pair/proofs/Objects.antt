@@ -1,9 +1,8 @@
 -- The row of an object source. Assumes nothing.
-use mathlib.Core.Path.{_≡_, refl, sym, ap, _∙_, subst}
-use mathlib.Core.Bool.{Bool}
-use mathlib.Core.List.{List, [], _∷_, append-nil}
-use mathlib.Core.Option.{Option, none, some}
-use Prim.Native.Nat.{ℕ, _+_, _≤_}
+use mathlib.Core.Path.{_≡_, sym, ap, _∙_, subst}
+use mathlib.Core.List.{[], append-nil}
+use mathlib.Core.Option.{none, some}
+use Prim.Native.Nat.{ℕ}
 use native.Mathlib.Omega.{arith}
 use lib.ListN.{length}
 use Rattle.meaning.specs.Bytes.{Text, orEmpty}
@@ -15,12 +14,9 @@ use Rattle.matcher.specs.declared.types.Ends.{Ends}
 use Rattle.matcher.specs.declared.types.Ends.the-variants.{Nothing, Row as Found}
 use Rattle.matcher.specs.Matching.{madeMeant, endsMeant, MadeWithin, EndsWithin, Matches, objectEnds}
 use Rattle.matched.proofs.Objects.{object-rows}
-use Rattle.row.specs.Rows.{Lent, RowWithin, rowMeant}
-use Rattle.pair.specs.Pairs.{specOf, objectBytes, fieldPlaces}
+use Rattle.row.specs.Rows.{Lent, rowMeant}
+use Rattle.pair.specs.Pairs.{specOf, objectBytes}
 use Rattle.pair.specs.Asking.{Ready}
-
-pub object-row-within : (len i : ℕ) (source destination : Made) → i ≤ 256 → MadeWithin len 0 source → MadeWithin len 0 destination → RowWithin len 0 (record { item = 0; spec = i; kind = 1; source = source; destination = destination })
-object-row-within len i source destination h s d = record { item-small = omega arith; spec-small = h; kind-small = omega arith; source-within = s; destination-within = d }
 
 pub nothing-lent : (specs : Text) (m : Matcher) → Ready specs m → Lent specs []
 nothing-lent specs m r = record { specs-short = r .specs-short; name-short = omega arith }
@@ -42,7 +38,7 @@ module _ (specs : Text) (m : Matcher) (ready : Ready specs m) (i : ℕ) (e : End
       let q : objectEnds (specOf specs m) ≡ none = sym (told (specOf specs m) (ready .matches)) ∙ ap (endsMeant specs []) h in
       rw (object-rows i (specOf specs m), q)
 
-  pub object-size : (source destination : Made) → e ≡ Found source destination → (n : ℕ) → n ≡ length (rowBytes (rowMeant specs [] (fieldPlaces i 0 source destination))) → n ≡ length (objectBytes i (specOf specs m))
+  pub object-size : (source destination : Made) → e ≡ Found source destination → (n : ℕ) → n ≡ length (rowBytes (rowMeant specs [] 0 i 1 source destination)) → n ≡ length (objectBytes i (specOf specs m))
   unfolding objectBytes rowListOf rowMeant
   object-size source destination is n h =
       let q : objectEnds (specOf specs m) ≡ some (record { source = orEmpty (madeMeant specs [] source); destination = madeMeant specs [] destination }) = sym (told (specOf specs m) (ready .matches)) ∙ ap (endsMeant specs []) is in

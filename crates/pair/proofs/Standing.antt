@@ -6,19 +6,18 @@ use mathlib.Core.Option.{Option, none, some}
 use Prim.Native.Nat.{ℕ, zero, suc, _+_, _≤_, _<_}
 use native.Mathlib.Omega.{arith}
 use lib.ListN.{length}
-use Rattle.meaning.specs.Bytes.{Text, orEmpty, each}
+use Rattle.meaning.specs.Bytes.{Text, each}
 use Rattle.meaning.specs.Spec.{Spec}
 use Rattle.meaning.specs.Rows.{rowBytes}
 use Rattle.meaning.specs.Listing as listing
-use Rattle.meaning.specs.Listing.{forwardEnds, reverseEnds}
 use Rattle.matcher.specs.declared.types.Matcher.{Matcher}
 use Rattle.matcher.specs.declared.types.Made.{Made}
 use Rattle.matcher.specs.declared.types.Ends.{Ends}
 use Rattle.matcher.specs.declared.types.Ends.the-variants.{Nothing, Row as Found}
-use Rattle.matcher.specs.Matching.{madeMeant, endsMeant, MadeWithin, EndsWithin, Matches, objectEnds}
+use Rattle.matcher.specs.Matching.{endsMeant, MadeWithin, EndsWithin, Matches, objectEnds}
 use Rattle.matched.specs.Known.{KnownForward, KnownReverse}
-use Rattle.row.specs.Rows.{Lent, rowMeant}
-use Rattle.pair.specs.Pairs.{specOf, endsIn, fieldEnds, givenRow, fieldPlaces, fieldBytes}
+use Rattle.row.specs.Rows.{rowMeant}
+use Rattle.pair.specs.Pairs.{specOf, fieldEnds, kindOf, givenRow, fieldBytes}
 use Rattle.pair.specs.Asking.{Ready, FieldTold, Put}
 
 no-bytes : (t : Text) → length t ≡ 0 → t ≡ []
@@ -75,7 +74,7 @@ module _ (back : Bool) (specs name : Text) (m : Matcher) (i field : ℕ) (r : En
   field-some e = none-some (ends .0) (ap (endsMeant specs name) (sym e) ∙ meant ∙ ends .1)
 
   module _ (source destination : Made) (is : r ≡ Found source destination) where
-    pub field-is : fieldBytes back i field name (specOf specs m) ≡ rowBytes (rowMeant specs name (fieldPlaces i field source destination))
+    pub field-is : fieldBytes back i field name (specOf specs m) ≡ rowBytes (rowMeant specs name field i (kindOf field) source destination)
     unfolding fieldBytes rowMeant
     field-is = rw (← meant, is) (append-nil _)
 
@@ -88,8 +87,8 @@ module _ (back : Bool) (specs name : Text) (m : Matcher) (i field : ℕ) (r : En
     pub field-destination : MadeWithin (length specs) (length name) destination
     field-destination = both .1
 
-    pub stands-room : (d : Text) (at : ℕ) → at + length (fieldBytes back i field name (specOf specs m)) ≤ length d → at + length (rowBytes (rowMeant specs name (fieldPlaces i field source destination))) ≤ length d
+    pub stands-room : (d : Text) (at : ℕ) → at + length (fieldBytes back i field name (specOf specs m)) ≤ length d → at + length (rowBytes (rowMeant specs name field i (kindOf field) source destination)) ≤ length d
     stands-room d at h = rw field-is at h
 
-    pub stands-put : (d : Text) (at : ℕ) (o : Text) (n : ℕ) → Put d at (rowBytes (rowMeant specs name (fieldPlaces i field source destination))) o n → Put d at (fieldBytes back i field name (specOf specs m)) o n
+    pub stands-put : (d : Text) (at : ℕ) (o : Text) (n : ℕ) → Put d at (rowBytes (rowMeant specs name field i (kindOf field) source destination)) o n → Put d at (fieldBytes back i field name (specOf specs m)) o n
     stands-put d at o n p = rw field-is p

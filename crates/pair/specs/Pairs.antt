@@ -12,7 +12,7 @@ use Rattle.parse.specs.Places.{sideMeant}
 use Rattle.matcher.specs.declared.types.Matcher.{Matcher}
 use Rattle.matcher.specs.declared.types.Made.{Made}
 use Rattle.matcher.specs.Matching.{madeMeant, objectEnds}
-use Rattle.row.specs.declared.Row.{Row}
+use Rattle.row.specs.Rows.{rowMeant}
 
 -- the spec that a matcher stands for: no sign matters to it
 abbrev pub specOf : Text → Matcher → Spec
@@ -54,10 +54,6 @@ abbrev pub givenRow : ℕ → ℕ → Option Ends → List meaning.Row
 givenRow i field none = []
 givenRow i field (some e) = fieldRow i field e ∷ []
 
--- the row of spec i with this item field, with its texts as places
-abbrev pub fieldPlaces : ℕ → ℕ → Made → Made → Row
-fieldPlaces i field source destination = record { item = field; spec = i; kind = kindOf field; source = source; destination = destination }
-
 -- the bytes of that row, if there is one, whatever negatives remove
 unfoldable pub fieldBytes : Bool → ℕ → ℕ → Text → Spec → Text
 fieldBytes back i field name s = each (givenRow i field (fieldEnds back s field name)) rowBytes
@@ -65,5 +61,4 @@ fieldBytes back i field name s = each (givenRow i field (fieldEnds back s field 
 -- the bytes of the row of item j under spec i, unless its source is gone
 abbrev pub keptBytes : (Text → Bool) → ℕ → ℕ → Text → Text → Made → Made → Text
 keptBytes gone i j s name source destination =
-    cond (gone (orEmpty (madeMeant s name source))) []
-    (rowBytes (record { item = suc j; spec = i; kind = 0; source = orEmpty (madeMeant s name source); destination = madeMeant s name destination }))
+    cond (gone (orEmpty (madeMeant s name source))) [] (rowBytes (rowMeant s name (suc j) i 0 source destination))

@@ -9,7 +9,7 @@ ghost use Rattle.meaning.specs.Rows.{rowBytes};
 ghost use Rattle.matcher.specs.Matching.{madeMeant, MadeWithin};
 ghost use Rattle.exclude.specs.Negatives.{excludedBy};
 ghost use Rattle.row.specs.Rows.{Lent, rowMeant};
-ghost use Rattle.pair.specs.Pairs.{specOf, itemBytes, objectBytes, kindOf, fieldPlaces, fieldBytes, keptBytes};
+ghost use Rattle.pair.specs.Pairs.{specOf, itemBytes, objectBytes, kindOf, fieldBytes, keptBytes};
 ghost use Rattle.pair.specs.Asking.{Askable, Ready, EndsTold, FieldTold, Put};
 
 mod gone;
@@ -23,7 +23,6 @@ use matched::reverse;
 use matcher::types::Ends;
 use matcher::types::Made;
 use matcher::types::Matcher;
-use row::Row;
 use row::put_row;
 use row::row_size;
 
@@ -55,14 +54,7 @@ fn kept_size(
     if removed(specs, name, source, negatives, count) {
         return 0;
     }
-    let row = Row {
-        item: j + 1,
-        spec: i,
-        kind: 0,
-        source,
-        destination,
-    };
-    row_size(specs, name, row)
+    row_size(specs, name, j + 1, i, 0, source, destination)
 }
 
 // How many bytes item j takes under spec i.
@@ -91,16 +83,9 @@ pub fn item_size(
 // How many bytes the row of an object source of spec i takes that has these texts.
 fn made_object_size(specs: &[u8], i: usize, source: Made, destination: Made) -> usize
     requires { ⌜ Lent (now specs) [] × (i ≤ specCount) × MadeWithin (length (now specs)) 0 source × MadeWithin (length (now specs)) 0 destination ⌝ }
-    ensures { λ r. ⌜ (r ≡ length (rowBytes (rowMeant (now (specs .entry)) [] (fieldPlaces i 0 source destination)))) × (r ≤ 500000) ⌝ }
+    ensures { λ r. ⌜ (r ≡ length (rowBytes (rowMeant (now (specs .entry)) [] 0 i 1 source destination))) × (r ≤ 500000) ⌝ }
 {
-    let row = Row {
-        item: 0,
-        spec: i,
-        kind: 1,
-        source,
-        destination,
-    };
-    row_size(specs, &specs[..0], row)
+    row_size(specs, &specs[..0], 0, i, 1, source, destination)
 }
 
 // How many bytes the row of spec i takes as an object source; any other spec has none.
@@ -152,17 +137,20 @@ fn put_made(
     source: Made,
     destination: Made,
 ) -> usize
-    requires { ⌜ Lent (now specs) (now name) × (i ≤ specCount) × (field ≤ itemCount) × MadeWithin (length (now specs)) (length (now name)) source × MadeWithin (length (now specs)) (length (now name)) destination × (at + length (rowBytes (rowMeant (now specs) (now name) (fieldPlaces i field source destination))) ≤ length (now out)) ⌝ }
-    ensures { λ r. ⌜ Put (now (out .entry)) at (rowBytes (rowMeant (now (specs .entry)) (now (name .entry)) (fieldPlaces i field source destination))) (now (out .exit)) r ⌝ }
+    requires { ⌜ Lent (now specs) (now name) × (i ≤ specCount) × (field ≤ itemCount) × MadeWithin (length (now specs)) (length (now name)) source × MadeWithin (length (now specs)) (length (now name)) destination × (at + length (rowBytes (rowMeant (now specs) (now name) field i (kindOf field) source destination)) ≤ length (now out)) ⌝ }
+    ensures { λ r. ⌜ Put (now (out .entry)) at (rowBytes (rowMeant (now (specs .entry)) (now (name .entry)) field i (kindOf field) source destination)) (now (out .exit)) r ⌝ }
 {
-    let row = Row {
-        item: field,
-        spec: i,
-        kind: kind_of(field),
+    put_row(
+        out,
+        at,
+        specs,
+        name,
+        field,
+        i,
+        kind_of(field),
         source,
         destination,
-    };
-    put_row(out, at, specs, name, row)
+    )
 }
 
 // Writes the row of spec i with this item field, which there is, and answers the place after it.

@@ -1,9 +1,8 @@
 -- A row's bytes by its pieces: three numbers, the source, the destination. Assumes nothing.
 use mathlib.Core.Path.{_≡_, refl, sym, ap, _∙_}
 use mathlib.Core.Bool.{Bool, true, false}
-use mathlib.Core.List.{[], _∷_, _++_, append-assoc}
-use mathlib.Core.Option.{Option, none, some}
-use Prim.Native.Nat.{ℕ, suc, _+_, _≤_}
+use mathlib.Core.List.{_++_, append-assoc}
+use Prim.Native.Nat.{ℕ, _+_, _≤_}
 use native.Mathlib.Omega.{arith}
 use native.Mathlib.Numerals.{add-one}
 use lib.ListN.{length, length-append}
@@ -21,7 +20,6 @@ use Rattle.matcher.specs.declared.types.Lead.{Lead}
 use Rattle.matcher.specs.declared.types.Made.{Made}
 use Rattle.matcher.specs.declared.types.Made.the-variants.{Absent, Name, Led, Filled}
 use Rattle.matcher.specs.Matching.{madeMeant}
-use Rattle.row.specs.declared.Row.{Row}
 use Rattle.row.specs.Rows.{isAbsent, rowMeant, rowNumbers, presentBytes}
 
 -- the arms of a `match` on a text
@@ -37,26 +35,6 @@ module _ (m : Made) where
 
   pub filled-is : (a b c d f g : ℕ) → m ≡ Filled a b c d f g → false ≡ isAbsent m
   filled-is a b c d f g e = rw e
-
--- the bytes of a row
-pub row-pieces : (specs name : Text) (r : Row) → rowBytes (rowMeant specs name r) ≡ rowNumbers (r .item) (r .spec) (r .kind) ++ (textBytes (orEmpty (madeMeant specs name (r .source))) ++ destinationBytes (madeMeant specs name (r .destination)))
-unfolding rowBytes rowMeant
-row-pieces specs name r =
-    let a = numberBytes (r .item) in
-    let b = numberBytes (r .spec) in
-    let c = numberBytes (r .kind) in
-    let t = textBytes (orEmpty (madeMeant specs name (r .source))) ++ destinationBytes (madeMeant specs name (r .destination)) in
-    sym (append-assoc a (b ++ c) t ∙ ap (λ (x : Text). a ++ x) (append-assoc b c t))
-
--- how many there are
-pub row-size : (specs name : Text) (r : Row) (a b c s d : ℕ) → a ≡ length (numberBytes (r .item)) → b ≡ length (numberBytes (r .spec)) → c ≡ length (numberBytes (r .kind)) → s ≡ length (textBytes (orEmpty (madeMeant specs name (r .source)))) → d ≡ length (destinationBytes (madeMeant specs name (r .destination))) → a + b + c + s + d ≡ length (rowBytes (rowMeant specs name r))
-row-size specs name r a b c s d ea eb ec es ed =
-    let A = numberBytes (r .item) in
-    let B = numberBytes (r .spec) in
-    let C = numberBytes (r .kind) in
-    let S = textBytes (orEmpty (madeMeant specs name (r .source))) in
-    let D = destinationBytes (madeMeant specs name (r .destination)) in
-    omega (arith, ap length (row-pieces specs name r), length-append (A ++ (B ++ C)) (S ++ D), length-append A (B ++ C), length-append B C, length-append S D)
 
 -- a destination that is absent
 pub destination-none : (specs name : Text) (m : Made) → isAbsent m ≡ true → destinationBytes (madeMeant specs name m) ≡ numberBytes 0
@@ -150,33 +128,52 @@ module _ (specs name : Text) (m : Made) (b : Bool) (eb : b ≡ isAbsent m) where
     pub some-end : b ≡ false → (i : ℕ) → i ≡ at + length (presentBytes (orEmpty (madeMeant specs name m))) → i ≡ at + length (destinationBytes (madeMeant specs name m))
     some-end t i e = rw (destination-some specs name m (sym eb ∙ t)) e
 
--- a row, written
-module _ (specs name : Text) (r : Row) (d : Text) (at : ℕ) (fits : at + length (rowBytes (rowMeant specs name r)) ≤ length d) where
-  abbrev numbers : Text
-  numbers = rowNumbers (r .item) (r .spec) (r .kind)
+-- a row
+module _ (specs name : Text) (item spec kind : ℕ) (source destination : Made) where
+  abbrev first : Text
+  first = rowNumbers item spec kind
 
-  abbrev source : Text
-  source = textBytes (orEmpty (madeMeant specs name (r .source)))
+  abbrev second : Text
+  second = textBytes (orEmpty (madeMeant specs name source))
 
-  abbrev destination : Text
-  destination = destinationBytes (madeMeant specs name (r .destination))
+  abbrev third : Text
+  third = destinationBytes (madeMeant specs name destination)
 
-  all : at + length (numbers ++ (source ++ destination)) ≤ length d
-  all = rw (row-pieces specs name r) at fits
+  -- its bytes
+  pieces : rowBytes (rowMeant specs name item spec kind source destination) ≡ first ++ (second ++ third)
+  unfolding rowBytes rowMeant
+  pieces =
+      let a = numberBytes item in
+      let b = numberBytes spec in
+      let c = numberBytes kind in
+      sym (append-assoc a (b ++ c) (second ++ third) ∙ ap (λ (x : Text). a ++ x) (append-assoc b c (second ++ third)))
 
-  pub row-first : at + length (rowNumbers (r .item) (r .spec) (r .kind)) ≤ length d
-  row-first = three-first d at numbers source destination all
+  -- how many there are
+  pub row-size : (a b c s d : ℕ) → a ≡ length (numberBytes item) → b ≡ length (numberBytes spec) → c ≡ length (numberBytes kind) → s ≡ length (textBytes (orEmpty (madeMeant specs name source))) → d ≡ length (destinationBytes (madeMeant specs name destination)) → a + b + c + s + d ≡ length (rowBytes (rowMeant specs name item spec kind source destination))
+  row-size a b c s d ea eb ec es ed =
+      let A = numberBytes item in
+      let B = numberBytes spec in
+      let C = numberBytes kind in
+      omega (arith, ap length pieces, length-append first (second ++ third), length-append A (B ++ C), length-append B C, length-append second third)
 
-  module _ (o : Text) (i : ℕ) (eo : o ≡ splice d at (rowNumbers (r .item) (r .spec) (r .kind))) (ei : i ≡ at + length (rowNumbers (r .item) (r .spec) (r .kind))) where
-    pub row-second : i + length (textBytes (orEmpty (madeMeant specs name (r .source)))) ≤ length o
-    row-second = three-second d at numbers source destination all o i eo ei
+  -- it is written
+  module _ (d : Text) (at : ℕ) (fits : at + length (rowBytes (rowMeant specs name item spec kind source destination)) ≤ length d) where
+    all : at + length (first ++ (second ++ third)) ≤ length d
+    all = rw pieces at fits
 
-    module _ (p : Text) (j : ℕ) (ep : p ≡ splice o i (textBytes (orEmpty (madeMeant specs name (r .source))))) (ej : j ≡ i + length (textBytes (orEmpty (madeMeant specs name (r .source))))) where
-      pub row-third : j + length (destinationBytes (madeMeant specs name (r .destination))) ≤ length p
-      row-third = three-third d at numbers source destination all o i eo ei p j ep ej
+    pub row-first : at + length (rowNumbers item spec kind) ≤ length d
+    row-first = three-first d at first second third all
 
-      pub row-put : (q : Text) → q ≡ splice p j (destinationBytes (madeMeant specs name (r .destination))) → q ≡ splice d at (rowBytes (rowMeant specs name r))
-      row-put q e = rw (row-pieces specs name r) (three-put d at numbers source destination all o i eo ei p j ep ej q e)
+    module _ (o : Text) (i : ℕ) (eo : o ≡ splice d at (rowNumbers item spec kind)) (ei : i ≡ at + length (rowNumbers item spec kind)) where
+      pub row-second : i + length (textBytes (orEmpty (madeMeant specs name source))) ≤ length o
+      row-second = three-second d at first second third all o i eo ei
 
-      pub row-end : (k : ℕ) → k ≡ j + length (destinationBytes (madeMeant specs name (r .destination))) → k ≡ at + length (rowBytes (rowMeant specs name r))
-      row-end k e = rw (row-pieces specs name r) (three-end d at numbers source destination all o i eo ei p j ep ej k e)
+      module _ (p : Text) (j : ℕ) (ep : p ≡ splice o i (textBytes (orEmpty (madeMeant specs name source)))) (ej : j ≡ i + length (textBytes (orEmpty (madeMeant specs name source)))) where
+        pub row-third : j + length (destinationBytes (madeMeant specs name destination)) ≤ length p
+        row-third = three-third d at first second third all o i eo ei p j ep ej
+
+        pub row-put : (q : Text) → q ≡ splice p j (destinationBytes (madeMeant specs name destination)) → q ≡ splice d at (rowBytes (rowMeant specs name item spec kind source destination))
+        row-put q e = rw pieces (three-put d at first second third all o i eo ei p j ep ej q e)
+
+        pub row-end : (k : ℕ) → k ≡ j + length (destinationBytes (madeMeant specs name destination)) → k ≡ at + length (rowBytes (rowMeant specs name item spec kind source destination))
+        row-end k e = rw pieces (three-end d at first second third all o i eo ei p j ep ej k e)

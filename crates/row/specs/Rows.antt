@@ -6,11 +6,10 @@ use lib.ListN.{length}
 use Rattle.meaning.specs.Bytes.{Text, orEmpty}
 use Rattle.meaning.specs.Limits.{listBytes, nameBytes, itemCount, specCount}
 use Rattle.meaning.specs.Number.{numberBytes}
-use Rattle.meaning.specs.Rows as meaning
+use Rattle.meaning.specs.Rows.{Row}
 use Rattle.matcher.specs.declared.types.Made.{Made}
 use Rattle.matcher.specs.declared.types.Made.the-variants.{Absent, Name, Led, Filled}
 use Rattle.matcher.specs.Matching.{madeMeant, MadeWithin}
-use Rattle.row.specs.declared.Row.{Row}
 
 -- a text is not there
 abbrev pub isAbsent : Made → Bool
@@ -25,22 +24,22 @@ pub record Lent (specs name : Text) : Type 0 where
   pub name-short : length name ≤ nameBytes
 
 -- the numbers of a row are small, and its texts stand within the spec list and the name
-pub record RowWithin (len nameLen : ℕ) (r : Row) : Type 0 where
-  pub item-small : r .item ≤ itemCount
-  pub spec-small : r .spec ≤ specCount
-  pub kind-small : r .kind ≤ 1
-  pub source-within : MadeWithin len nameLen (r .source)
-  pub destination-within : MadeWithin len nameLen (r .destination)
+pub record RowWithin (len nameLen item spec kind : ℕ) (source destination : Made) : Type 0 where
+  pub item-small : item ≤ itemCount
+  pub spec-small : spec ≤ specCount
+  pub kind-small : kind ≤ 1
+  pub source-within : MadeWithin len nameLen source
+  pub destination-within : MadeWithin len nameLen destination
 
 -- the row that is meant
-unfoldable pub rowMeant : Text → Text → Row → meaning.Row
-rowMeant s name r =
+unfoldable pub rowMeant : Text → Text → ℕ → ℕ → ℕ → Made → Made → Row
+rowMeant s name item spec kind source destination =
     record {
-      item = r .item;
-      spec = r .spec;
-      kind = r .kind;
-      source = orEmpty (madeMeant s name (r .source));
-      destination = madeMeant s name (r .destination);
+      item = item;
+      spec = spec;
+      kind = kind;
+      source = orEmpty (madeMeant s name source);
+      destination = madeMeant s name destination;
     }
 
 -- the numbers that a row begins with

@@ -12,15 +12,6 @@ use made::made_size;
 use made::put_made;
 use matcher::types::Made;
 
-// A row: item number plus 1 or 0, spec number, source kind, and the texts of both ends.
-pub struct Row {
-    pub item: usize,
-    pub spec: usize,
-    pub kind: usize,
-    pub source: Made,
-    pub destination: Made,
-}
-
 // There is no text.
 fn is_absent(m: Made) -> bool
     ensures { λ r. ⌜ r ≡ isAbsent m ⌝ }
@@ -61,16 +52,19 @@ fn destination_size(specs: &[u8], name: &[u8], destination: Made) -> usize
     number::size(n + 1) + n
 }
 
-// How many bytes a row has.
-pub fn row_size(specs: &[u8], name: &[u8], row: Row) -> usize
-    requires { ⌜ Lent (now specs) (now name) × RowWithin (length (now specs)) (length (now name)) row ⌝ }
-    ensures { λ r. ⌜ (r ≡ length (rowBytes (rowMeant (now (specs .entry)) (now (name .entry)) row))) × (r ≤ 500000) ⌝ }
+// How many bytes a row has: item number plus 1 or 0, spec number, source kind, and the texts of both ends.
+pub fn row_size(
+    specs: &[u8],
+    name: &[u8],
+    item: usize,
+    spec: usize,
+    kind: usize,
+    source: Made,
+    destination: Made,
+) -> usize
+    requires { ⌜ Lent (now specs) (now name) × RowWithin (length (now specs)) (length (now name)) item spec kind source destination ⌝ }
+    ensures { λ r. ⌜ (r ≡ length (rowBytes (rowMeant (now (specs .entry)) (now (name .entry)) item spec kind source destination))) × (r ≤ 500000) ⌝ }
 {
-    let item = row.item;
-    let spec = row.spec;
-    let kind = row.kind;
-    let source = row.source;
-    let destination = row.destination;
     let numbers = number::size(item) + number::size(spec) + number::size(kind);
     numbers + source_size(specs, name, source) + destination_size(specs, name, destination)
 }
@@ -117,15 +111,20 @@ fn put_destination(out: &mut [u8], at: usize, specs: &[u8], name: &[u8], destina
 }
 
 // Writes a row, and answers the place after it.
-pub fn put_row(out: &mut [u8], at: usize, specs: &[u8], name: &[u8], row: Row) -> usize
-    requires { ⌜ Lent (now specs) (now name) × RowWithin (length (now specs)) (length (now name)) row × (at + length (rowBytes (rowMeant (now specs) (now name) row)) ≤ length (now out)) ⌝ }
-    ensures { λ r. ⌜ (now (out .exit) ≡ splice (now (out .entry)) at (rowBytes (rowMeant (now (specs .entry)) (now (name .entry)) row))) × (r ≡ at + length (rowBytes (rowMeant (now (specs .entry)) (now (name .entry)) row))) ⌝ }
+pub fn put_row(
+    out: &mut [u8],
+    at: usize,
+    specs: &[u8],
+    name: &[u8],
+    item: usize,
+    spec: usize,
+    kind: usize,
+    source: Made,
+    destination: Made,
+) -> usize
+    requires { ⌜ Lent (now specs) (now name) × RowWithin (length (now specs)) (length (now name)) item spec kind source destination × (at + length (rowBytes (rowMeant (now specs) (now name) item spec kind source destination)) ≤ length (now out)) ⌝ }
+    ensures { λ r. ⌜ (now (out .exit) ≡ splice (now (out .entry)) at (rowBytes (rowMeant (now (specs .entry)) (now (name .entry)) item spec kind source destination))) × (r ≡ at + length (rowBytes (rowMeant (now (specs .entry)) (now (name .entry)) item spec kind source destination))) ⌝ }
 {
-    let item = row.item;
-    let spec = row.spec;
-    let kind = row.kind;
-    let source = row.source;
-    let destination = row.destination;
     let i = put_numbers(out, at, item, spec, kind);
     let j = put_source(out, i, specs, name, source);
     put_destination(out, j, specs, name, destination)

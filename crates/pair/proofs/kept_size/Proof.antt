@@ -1,5 +1,5 @@
 -- The row is gone, or measured.
-use Rattle.pair.proofs.Kept.{row-within, gone-size, kept-size}
+use Rattle.pair.proofs.Kept.{gone-size, kept-size}
 use borrow.Author.Needs.{needs}
 use Rattle.pair.proofs.kept_size.Statement.{statement}
 use Rattle.pair.proofs.kept_size.Tie as tie
@@ -10,14 +10,14 @@ removed-requires c κs = search needs
 returns : tie.Need-returns
 returns c = (search gone-size, search needs)
 
-add-t11 : tie.Need-add-t11
-add-t11 c = search needs
+add-row-size : tie.Need-add-row-size
+add-row-size c = search needs
 
 row-size-requires : tie.Need-row-size-requires
-row-size-requires c κs = (search needs, search row-within)
+row-size-requires c κs = (search needs, search needs)
 
 returns-2 : tie.Need-returns-2
 returns-2 c = (search kept-size, search needs)
 
 pub kept-size-spec : {M : Type 1} → statement M
-kept-size-spec = tie.close (tie.spec removed-requires returns add-t11 row-size-requires returns-2)
+kept-size-spec = tie.close (tie.spec removed-requires returns add-row-size row-size-requires returns-2)

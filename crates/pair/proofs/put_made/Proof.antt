@@ -1,5 +1,5 @@
 -- The row is written with the kind of its item field.
-use Rattle.pair.proofs.Fields.{field-within, field-room, field-put}
+use Rattle.pair.proofs.Fields.{field-room, field-put}
 use borrow.Author.Needs.{needs}
 use Rattle.pair.proofs.put_made.Statement.{statement}
 use Rattle.pair.proofs.put_made.Tie as tie
@@ -8,7 +8,7 @@ kind-of-requires : tie.Need-kind-of-requires
 kind-of-requires c κs = search needs
 
 put-row-requires : tie.Need-put-row-requires
-put-row-requires c κs = (search needs, search field-within, search field-room)
+put-row-requires c κs = (search needs, search needs, search field-room)
 
 same-length : tie.Need-same-length
 same-length c = search needs
