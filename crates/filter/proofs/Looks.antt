@@ -4,11 +4,11 @@ use mathlib.Core.Bool.{Bool, true, false}
 use mathlib.Core.List.{List, [], _∷_}
 use Prim.Native.Nat.{ℕ, zero, suc, _+_, _-_, _*_, _≤_, _<_}
 use native.Mathlib.Omega.{arith}
-use borrow.Author.Tests.{ne-eqb, le-leb, lt-leb, eqb-true, eqb-false}
-use lib.Dec.{eqb}
+use borrow.Author.Tests.{ne-eqb, le-leb, lt-leb, leb-true, eqb-true, eqb-false}
+use lib.Dec.{eqb, leb}
 use lib.ListN.{length, take, drop, getD}
 use lib.Seq.{drop-drop}
-use Rattle.meaning.specs.Bytes.{Text, _and_, _or_}
+use Rattle.meaning.specs.Bytes.{Text, _and_}
 use Rattle.eights.specs.Word.{number}
 use Rattle.parse.specs.Places.{partAt}
 use Rattle.parse.proofs.Parts.{part-length}
@@ -97,6 +97,15 @@ module _ (f : Filter) (items : Text) (start n : ℕ) (w : start + n ≤ length i
     pub size-decides : f .worded ≡ false → f .framed ≡ false → true ≡ passes f (partAt items start n)
     unfolding looksRight
     size-decides e d = sym (looked ∙ rw (e, d))
+
+-- a filter whose most is below its least lets no name pass
+pub none-passes : (f : Filter) → f .most < f .least → (name : Text) → passes f name ≡ false
+unfolding passes
+none-passes f h name = go (leb (f .least) (length name)) refl
+  where
+    go : (b : Bool) → leb (f .least) (length name) ≡ b → (b and leb (length name) (f .most) and looksRight f name) ≡ false
+    go true e = let l = leb-true (f .least) (length name) e in rw (lt-leb (length name) (f .most) (omega arith))
+    go false e = refl
 
 -- ---- one name after the other
 module _ (f : Filter) (items : Text) (places : List ℕ) (from j : ℕ) where

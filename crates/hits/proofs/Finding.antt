@@ -1,26 +1,25 @@
 -- The loops of the search: what was found, and what the names and the specs that are left give, make the whole. Assumes nothing.
-use mathlib.Core.Path.{_≡_, refl, sym, ap, _∙_}
+use mathlib.Core.Path.{_≡_, refl, ap, _∙_}
 use mathlib.Core.Bool.{Bool, true, false}
-use mathlib.Core.List.{List, [], _∷_, _++_}
-use mathlib.Core.Option.{none}
-use Prim.Native.Nat.{ℕ, zero, suc, _+_, _-_, _*_, _≤_, _<_}
+use mathlib.Core.List.{List, []}
+use Prim.Native.Nat.{ℕ, _+_, _-_, _*_, _≤_, _<_}
 use native.Mathlib.Omega.{arith}
 use mir.Val.{Fits}
 use mir.Syntax.{w64}
 use lib.ListN.{length, getD}
 use Rattle.meaning.specs.Bytes.{Text}
 use Rattle.meaning.specs.Spec.{Spec}
-use Rattle.meaning.specs.Listing.{forwardEnds, reverseEnds}
 use Rattle.parse.specs.Places.{partAt}
 use Rattle.parse.proofs.Parts.{part-length}
 use Rattle.matcher.specs.declared.types.Matcher.{Matcher}
-use Rattle.matcher.specs.Matching.{Matches, MatcherWithin}
+use Rattle.matcher.specs.Matching.{MatcherWithin}
 use Rattle.matchers.specs.Numbers.{matcherAt}
 use Rattle.filter.specs.declared.Filter.{Filter}
-use Rattle.filter.specs.Filters.{passes, nameAt, FilterWithin, StopsForward, StopsReverse}
-use Rattle.pair.specs.Pairs.{specOf, endsIn, itemBytes, objectBytes}
+use Rattle.filter.specs.Filters.{passes, nameAt, StopsForward, StopsReverse}
+use Rattle.filter.proofs.Looks.{none-passes}
+use Rattle.pair.specs.Pairs.{specOf, itemBytes, objectBytes}
 use Rattle.pair.specs.Asking.{Ready}
-use Rattle.hits.specs.Hits.{across, specAt, pairBytes, namesBytes, specBytes, groupBytes, objectsBytes, hitOf, hitIf, pairHits, namesHits, specHits, groupHits, objectHits}
+use Rattle.hits.specs.Hits.{across, specAt, pairBytes, namesBytes, specBytes, hitOf, hitIf, pairHits, namesHits, specHits}
 use Rattle.hits.specs.Noting.{PlacesIn, TableReady, Stops, Adds}
 use Rattle.hits.proofs.Across.{across-next, across-none, across-jump}
 use Rattle.hits.proofs.Counting.{Counted, counted-starts, counted-more, counted-on, counted-whole}
@@ -157,6 +156,17 @@ module _ (back : Bool) (gone : Text → Bool) (specs : Text) (m : Matcher) (f : 
 
     pub names-noted : n ≤ j → Adds first start (namesHits back gone (specOf specs m) items places n i) hits known
     names-noted h = noting-done first start (across hitsOf 0 n) hits known (across hitsOf j (n - j)) (c .noting) (across-none hitsOf j n h)
+
+  -- where no name passes, none gives anything
+  module _ (empty : f .most < f .least) (hits : List ℕ) (noted : ℕ) where
+    all-stopped : NamesFound back gone (specOf specs m) items places n i hits noted hits 0 noted n
+    all-stopped = names-begin hits noted n (omega arith) (omega arith) (λ k a b. none-passes f empty (nameAt items places k))
+
+    pub stopped-measured : 0 ≡ length (namesBytes back gone (specOf specs m) items places n i)
+    stopped-measured = names-measured hits noted hits 0 noted n all-stopped (omega arith)
+
+    pub stopped-noted : Adds hits noted (namesHits back gone (specOf specs m) items places n i) hits noted
+    stopped-noted = names-noted hits noted hits 0 noted n all-stopped (omega arith)
 
 -- ---- one spec of a table
 

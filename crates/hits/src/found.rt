@@ -162,6 +162,13 @@ pub fn spec_found(
 {
     let m = matcher_at(table, i);
     let f = filter_of(back, specs, m);
+    // No name passes, as none does for a negative spec.
+    if f.most < f.least {
+        return Found {
+            size: 0,
+            hits: noted,
+        };
+    }
     names_found(
         back,
         specs,
