@@ -1,13 +1,14 @@
 -- The loop that writes: what is written, and what the hits that are left give, make the whole. Assumes nothing.
-use mathlib.Core.Path.{_≡_, refl, sym, ap, _∙_}
+use mathlib.Core.Path.{_≡_, refl, ap, _∙_}
 use mathlib.Core.Bool.{Bool}
-use mathlib.Core.List.{List, [], _∷_, _++_}
+use mathlib.Core.List.{List, [], _++_}
 use Prim.Native.Nat.{ℕ, zero, suc, _+_, _-_, _*_, _/_, _%_, _≤_, _<_}
 use native.Mathlib.Omega.{arith}
 use native.Mathlib.Numerals.{add-one}
 use lib.ListN.{length, getD, take, drop, length-take, drop-of-length-le}
 use lib.Seq.{drop-cons, getD-take}
 use Rattle.meaning.specs.Bytes.{Text, each}
+use Rattle.meaning.specs.Spec.{Spec}
 use Rattle.buffer.proofs.Writing.{Writing, writing-starts, writing-room, writing-more, written-place, written-whole}
 use Rattle.parse.specs.Places.{partAt}
 use Rattle.parse.proofs.Parts.{part-length}
@@ -15,7 +16,7 @@ use Rattle.matcher.specs.declared.types.Matcher.{Matcher}
 use Rattle.matchers.specs.Numbers.{matcherAt}
 use Rattle.pair.specs.Pairs.{specOf, fieldBytes}
 use Rattle.pair.specs.Asking.{Ready, Put}
-use Rattle.hits.specs.Hits.{fieldStart, fieldSize, hitBytes}
+use Rattle.hits.specs.Hits.{fieldStart, fieldSize, underSpec, hitBytes}
 use Rattle.hits.specs.Noting.{PlacesIn, TableReady, Good, AllGood}
 
 drop-all : (l : List ℕ) (i : ℕ) → length l ≤ i → drop i l ≡ []
@@ -39,10 +40,10 @@ module _ (f : ℕ → Text) (hits : List ℕ) (noted : ℕ) (all : noted ≤ len
         (ap (λ (l : List ℕ). each l f) (drop-cons (take noted hits) k 0 (omega (arith, long)))
         ∙ ap (λ (x : ℕ). f x ++ each (drop (suc k) (take noted hits)) f) (getD-take noted hits k 0 h))
 
-    pub hits-room : k < noted → (x : ℕ) → x ≡ getD hits k 0 → (t : Text) → t ≡ f x → end + length t ≤ length out
+    hits-room : k < noted → (x : ℕ) → x ≡ getD hits k 0 → (t : Text) → t ≡ f x → end + length t ≤ length out
     hits-room h x e t q = rw (q, e) (writing-room first at (each (take noted hits) f) out end (each (drop k (take noted hits)) f) w (f (getD hits k 0)) (each (drop (k + 1) (take noted hits)) f) (next h))
 
-    pub hits-next : k < noted → (x : ℕ) → x ≡ getD hits k 0 → (t : Text) → t ≡ f x → (o : Text) (e : ℕ) → Put out end t o e → HitsWritten f hits noted first at (k + 1) o e
+    hits-next : k < noted → (x : ℕ) → x ≡ getD hits k 0 → (t : Text) → t ≡ f x → (o : Text) (e : ℕ) → Put out end t o e → HitsWritten f hits noted first at (k + 1) o e
     hits-next h x e t et o end₂ q =
         let p : Put out end (f (getD hits k 0)) o end₂ = rw (et, e) at q in
         writing-more first at (each (take noted hits) f) out end (each (drop k (take noted hits)) f) w (f (getD hits k 0)) (each (drop (k + 1) (take noted hits)) f) (next h) o end₂ (p .puts) (p .ends)
@@ -74,54 +75,68 @@ field-short : (items : Text) (places : List ℕ) (n : ℕ) → PlacesIn items pl
 field-short items places n p zero h = omega arith
 field-short items places n p (suc j) h = p .short j (omega arith)
 
-module _ (back : Bool) (specs : Text) (table : List ℕ) (group : ℕ) (t : TableReady specs table group) (items : Text) (places : List ℕ) (n : ℕ) (p : PlacesIn items places n) (hit : ℕ) (g : Good back specs table group items places n hit) where
+module _ (back : Bool) (items : Text) (places : List ℕ) (n : ℕ) (p : PlacesIn items places n) (hit : ℕ) (there : hit % 2048 ≤ n) where
   pub hit-field-few : hit % 2048 ≤ 1024
-  hit-field-few = omega (arith, g .item-there, p .few)
-
-  pub hit-spec-few : hit / 2048 ≤ 256
-  hit-spec-few = omega (arith, g .spec-there, t .few)
+  hit-field-few = omega (arith, p .few)
 
   pub hit-places : 2048 ≤ length places
   hit-places = p .room
 
-  pub hit-matcher : 10 * (hit / 2048) + 10 ≤ length table
-  hit-matcher = omega (arith, g .spec-there, t .few, t .room)
-
   module _ (start size : ℕ) (es : start ≡ fieldStart places (hit % 2048)) (ez : size ≡ fieldSize places (hit % 2048)) where
     pub hit-inside : start + size ≤ length items
-    hit-inside = rw (es, ez) (field-inside items places n p (hit % 2048) (g .item-there))
+    hit-inside = rw (es, ez) (field-inside items places n p (hit % 2048) there)
 
     module _ (name : Text) (en : name ≡ partAt items start size) where
       name-long : length name ≡ size
       name-long = ap length en ∙ part-length items start size hit-inside
 
       pub hit-short : length name ≤ 4096
-      hit-short = omega (arith, name-long, ez, field-short items places n p (hit % 2048) (g .item-there))
+      hit-short = omega (arith, name-long, ez, field-short items places n p (hit % 2048) there)
 
       pub hit-empty : hit % 2048 ≡ 0 → length name ≡ 0
       hit-empty z = name-long ∙ ez ∙ rw z
 
-      module _ (m : Matcher) (em : m ≡ matcherAt table (hit / 2048)) where
-        pub hit-ready : Ready specs m
-        hit-ready = rw em (t .ready (hit / 2048) (g .spec-there))
+      module _ (s : Spec) where
+        same : fieldBytes back (hit / 2048) (hit % 2048) name s ≡ underSpec back items places hit s
+        same = rw (en, es, ez)
 
-        same : fieldBytes back (hit / 2048) (hit % 2048) name (specOf specs m) ≡ hitBytes back specs table items places hit
-        same = rw (en, em, es, ez)
+        pub hit-some : 0 < length (underSpec back items places hit s) → 0 < length (fieldBytes back (hit / 2048) (hit % 2048) name s)
+        hit-some h = rw same h
 
-        pub hit-some : 0 < length (fieldBytes back (hit / 2048) (hit % 2048) name (specOf specs m))
-        hit-some = rw same (g .gives)
-
-        pub hit-room : (d : Text) (at : ℕ) → at + length (hitBytes back specs table items places hit) ≤ length d → at + length (fieldBytes back (hit / 2048) (hit % 2048) name (specOf specs m)) ≤ length d
+        pub hit-room : (d : Text) (at : ℕ) → at + length (underSpec back items places hit s) ≤ length d → at + length (fieldBytes back (hit / 2048) (hit % 2048) name s) ≤ length d
         hit-room d at h = rw same h
 
-        pub hit-put : (d : Text) (at : ℕ) (o : Text) (e : ℕ) → Put d at (fieldBytes back (hit / 2048) (hit % 2048) name (specOf specs m)) o e → Put d at (hitBytes back specs table items places hit) o e
+        pub hit-put : (d : Text) (at : ℕ) (o : Text) (e : ℕ) → Put d at (fieldBytes back (hit / 2048) (hit % 2048) name s) o e → Put d at (underSpec back items places hit s) o e
         hit-put d at o e q = rw same at q
 
-pub good-at : (back : Bool) (specs : Text) (table : List ℕ) (group : ℕ) (items : Text) (places : List ℕ) (n : ℕ) (hits : List ℕ) (noted : ℕ) → AllGood back specs table group items places n hits noted → (k : ℕ) → k < noted → (x : ℕ) → x ≡ getD hits k 0 → Good back specs table group items places n x
-good-at back specs table group items places n hits noted a k h x e = rw e (a .each-good k h)
+-- ---- a turn of the loop: hit number k, of a spec whose matcher is at hand
 
--- ---- the hits of a listing
+module _ (back : Bool) (specs : Text) (table : List ℕ) (group : ℕ) (t : TableReady specs table group) (items : Text) (places : List ℕ) (n : ℕ) (hits : List ℕ) (noted : ℕ) (q : AllGood back specs table group items places n hits noted) (k : ℕ) (h : k < noted) (hit : ℕ) (e : hit ≡ getD hits k 0) where
+  good : Good back specs table group items places n hit
+  good = rw e (q .each-good k h)
 
-module _ (back : Bool) (specs : Text) (table : List ℕ) (items : Text) (places : List ℕ) (hits : List ℕ) (noted : ℕ) (all : noted ≤ length hits) (first : Text) (at k : ℕ) (out : Text) (end : ℕ) (w : HitsWritten (hitBytes back specs table items places) hits noted first at k out end) (h : k < noted) (x : ℕ) (e : x ≡ getD hits k 0) where
-  pub rows-next : (o : Text) (n : ℕ) → Put out end (hitBytes back specs table items places x) o n → HitsWritten (hitBytes back specs table items places) hits noted first at (k + 1) o n
-  rows-next o n q = hits-next (hitBytes back specs table items places) hits noted all first at k out end w h x e (hitBytes back specs table items places x) refl o n q
+  pub turn-matcher : 10 * (hit / 2048) + 10 ≤ length table
+  turn-matcher = omega (arith, good .spec-there, t .few, t .room)
+
+  pub turn-spec : hit / 2048 ≤ 256
+  turn-spec = omega (arith, good .spec-there, t .few)
+
+  pub turn-item : hit % 2048 ≤ n
+  turn-item = good .item-there
+
+  module _ (m : Matcher) (em : m ≡ matcherAt table (hit / 2048)) where
+    pub turn-ready : Ready specs m
+    turn-ready = rw em (t .ready (hit / 2048) (good .spec-there))
+
+    own : underSpec back items places hit (specOf specs m) ≡ hitBytes back specs table items places hit
+    own = rw em
+
+    pub turn-gives : 0 < length (underSpec back items places hit (specOf specs m))
+    turn-gives = rw own (good .gives)
+
+    module _ (first : Text) (at : ℕ) (out : Text) (end : ℕ) (w : HitsWritten (hitBytes back specs table items places) hits noted first at k out end) where
+      pub turn-room : end + length (underSpec back items places hit (specOf specs m)) ≤ length out
+      turn-room = hits-room (hitBytes back specs table items places) hits noted (q .all) first at k out end w h hit e _ own
+
+      pub turn-next : (o : Text) (r : ℕ) → Put out end (underSpec back items places hit (specOf specs m)) o r → HitsWritten (hitBytes back specs table items places) hits noted first at (k + 1) o r
+      turn-next o r p = hits-next (hitBytes back specs table items places) hits noted (q .all) first at k out end w h hit e _ own o r p

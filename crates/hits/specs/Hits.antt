@@ -81,6 +81,10 @@ fieldSize places (suc j) = getD places (2 * j + 1) 0
 abbrev pub fieldName : Text → List ℕ → ℕ → Text
 fieldName items places field = partAt items (fieldStart places field) (fieldSize places field)
 
--- what a hit gives
+-- what a hit gives under a spec
+abbrev pub underSpec : Bool → Text → List ℕ → ℕ → Spec → Text
+underSpec back items places hit = fieldBytes back (hit / 2048) (hit % 2048) (fieldName items places (hit % 2048))
+
+-- what it gives under its own
 abbrev pub hitBytes : Bool → Text → List ℕ → Text → List ℕ → ℕ → Text
-hitBytes back specs table items places hit = fieldBytes back (hit / 2048) (hit % 2048) (fieldName items places (hit % 2048)) (specAt specs table (hit / 2048))
+hitBytes back specs table items places hit = underSpec back items places hit (specAt specs table (hit / 2048))

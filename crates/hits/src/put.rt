@@ -1,13 +1,16 @@
 // Writing the rows of hits.
 ghost use mathlib.Core.Path.{_≡_};
-ghost use Prim.Native.Nat.{_+_, _≤_, _<_};
+ghost use Prim.Native.Nat.{_+_, _/_, _%_, _≤_, _<_};
 ghost use lib.ListN.{length, take};
 ghost use Rattle.meaning.specs.Bytes.{each};
-ghost use Rattle.pair.specs.Asking.{Put};
-ghost use Rattle.hits.specs.Hits.{fieldStart, fieldSize, hitBytes};
-ghost use Rattle.hits.specs.Noting.{PlacesIn, TableReady, Good, AllGood};
+ghost use Rattle.meaning.specs.Limits.{specCount};
+ghost use Rattle.pair.specs.Pairs.{specOf};
+ghost use Rattle.pair.specs.Asking.{Ready, Put};
+ghost use Rattle.hits.specs.Hits.{fieldStart, fieldSize, underSpec, hitBytes};
+ghost use Rattle.hits.specs.Noting.{PlacesIn, TableReady, AllGood};
 use super::found::part;
 use super::found::wide;
+use matcher::types::Matcher;
 use matchers::matcher_at;
 use pair::put_field;
 
@@ -42,29 +45,35 @@ fn size_of(places: &[u16], field: usize) -> usize
     wide(places[2 * j + 1])
 }
 
-// Writes what a hit gives, and answers the place after it.
+// Writes what a hit gives under the spec of a matcher, and answers the place after it.
 fn put_hit(
     out: &mut [u8],
     at: usize,
     back: bool,
     specs: &[u8],
-    table: &[u16],
-    group: usize,
+    m: Matcher,
     items: &[u8],
     places: &[u16],
     n: usize,
     hit: usize,
 ) -> usize
-    requires { ⌜ TableReady (now specs) (now table) group × PlacesIn (now items) (now places) n × Good back (now specs) (now table) group (now items) (now places) n hit
-        × (at + length (hitBytes back (now specs) (now table) (now items) (now places) hit) ≤ length (now out)) ⌝ }
-    ensures { λ r. ⌜ Put (now (out .entry)) at (hitBytes back (now (specs .entry)) (now (table .entry)) (now (items .entry)) (now (places .entry)) hit) (now (out .exit)) r ⌝ }
+    requires { ⌜ Ready (now specs) m × PlacesIn (now items) (now places) n × (hit / 2048 ≤ specCount) × (hit % 2048 ≤ n) × (0 < length (underSpec back (now items) (now places) hit (specOf (now specs) m)))
+        × (at + length (underSpec back (now items) (now places) hit (specOf (now specs) m)) ≤ length (now out)) ⌝ }
+    ensures { λ r. ⌜ Put (now (out .entry)) at (underSpec back (now (items .entry)) (now (places .entry)) hit (specOf (now (specs .entry)) m)) (now (out .exit)) r ⌝ }
 {
-    let i = hit / 2048;
     let field = hit % 2048;
-    let m = matcher_at(table, i);
     let start = start_of(places, field);
     let size = size_of(places, field);
-    put_field(out, at, back, specs, m, i, field, part(items, start, size))
+    put_field(
+        out,
+        at,
+        back,
+        specs,
+        m,
+        hit / 2048,
+        field,
+        part(items, start, size),
+    )
 }
 
 // Writes what the first `noted` of some hits give, and answers the place after it.
@@ -86,20 +95,18 @@ pub fn put_hits(
     ensures { λ r. ⌜ Put (now (out .entry)) at (each (take noted (now (hits .entry))) (hitBytes back (now (specs .entry)) (now (table .entry)) (now (items .entry)) (now (places .entry)))) (now (out .exit)) r ⌝ }
 {
     let mut end = at;
+    let mut last = 0;
+    let mut m = matcher_at(table, 0);
     let mut k = 0;
     while k < noted {
-        end = put_hit(
-            out,
-            end,
-            back,
-            specs,
-            table,
-            group,
-            items,
-            places,
-            n,
-            wider(hits[k]),
-        );
+        let hit = wider(hits[k]);
+        let i = hit / 2048;
+        // Hits of one spec stand together, so its matcher is read once.
+        if i != last {
+            m = matcher_at(table, i);
+            last = i;
+        }
+        end = put_hit(out, end, back, specs, m, items, places, n, hit);
         k += 1;
     }
     end

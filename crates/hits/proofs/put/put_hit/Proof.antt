@@ -1,11 +1,8 @@
 -- The row of the spec and the item field is written.
-use Rattle.hits.proofs.Writes.{hit-field-few, hit-spec-few, hit-places, hit-matcher, hit-inside, hit-short, hit-empty, hit-ready, hit-some, hit-room, hit-put}
+use Rattle.hits.proofs.Writes.{hit-field-few, hit-places, hit-inside, hit-short, hit-empty, hit-some, hit-room, hit-put}
 use borrow.Author.Needs.{needs}
 use Rattle.hits.proofs.put.put_hit.Statement.{statement}
 use Rattle.hits.proofs.put.put_hit.Tie as tie
-
-matcher-at-requires : tie.Need-matcher-at-requires
-matcher-at-requires c κs = search hit-matcher
 
 start-of-requires : tie.Need-start-of-requires
 start-of-requires c κs = (search hit-field-few, search hit-places)
@@ -17,7 +14,7 @@ part-requires : tie.Need-part-requires
 part-requires c κs = (search hit-inside, search needs)
 
 put-field-requires : tie.Need-put-field-requires
-put-field-requires c κs = (search hit-ready, search hit-spec-few, search hit-field-few, search hit-short, search hit-empty, search hit-some, search hit-room)
+put-field-requires c κs = (search needs, search needs, search hit-field-few, search hit-short, search hit-empty, search hit-some, search hit-room)
 
 same-length : tie.Need-same-length
 same-length c = search needs
@@ -29,7 +26,6 @@ pub put-hit-spec : {M : Type 1} → statement M
 put-hit-spec =
     tie.close
     (tie.spec
-    matcher-at-requires
     start-of-requires
     size-of-requires
     part-requires

@@ -1,23 +1,27 @@
--- What is written, and what the hits that are left give, make the whole.
-use mathlib.Core.Path.{_≡_, refl}
-use Prim.Native.Nat.{_-_, _≤_}
+-- What is written, and what the hits that are left give, make the whole; the matcher that is kept is that of the last hit's spec.
+use mathlib.Core.Path.{_≡_}
+use mathlib.Core.Logic.{⊎-elim}
+use Prim.Native.Nat.{_-_, _/_, _≤_}
 use native.Mathlib.Omega.{arith}
-use lib.ListN.{length}
 use denote.Ref.{now}
+use Rattle.matchers.specs.Numbers.{matcherAt}
 use Rattle.hits.specs.Hits.{hitBytes}
-use Rattle.hits.proofs.Writes.{HitsWritten, hits-begin, hits-room, rows-next, hits-end, good-at}
+use Rattle.hits.proofs.Writes.{HitsWritten, hits-begin, hits-end, turn-matcher, turn-ready, turn-spec, turn-item, turn-gives, turn-room, turn-next}
 use borrow.Author.Needs.{needs}
 use Rattle.hits.proofs.put.put_hits.Statement.{statement}
 use Rattle.hits.proofs.put.put_hits.Tie as tie
 
 abbrev Inv-loop : tie.InvT-loop
-Inv-loop out₀ at back specs table group items places n hits noted end₀ k₀ out end k = HitsWritten (hitBytes back specs table items places) hits noted out₀ at k out end × (k ≤ noted)
+Inv-loop out₀ at back specs table group items places n hits noted end₀ last₀ m₀ k₀ out end last m k = HitsWritten (hitBytes back specs table items places) hits noted out₀ at k out end × (k ≤ noted) × (m ≡ matcherAt table last)
 
 abbrev μ-loop : tie.MeasureT-loop
-μ-loop out₀ at back specs table group items places n hits noted end₀ k₀ out end k = noted - k
+μ-loop out₀ at back specs table group items places n hits noted end₀ last₀ m₀ k₀ out end last m k = noted - k
+
+matcher-at-requires : tie.Need-matcher-at-requires Inv-loop μ-loop
+matcher-at-requires c κs = search needs
 
 loop-holds : tie.Need-loop-holds Inv-loop μ-loop
-loop-holds c = (search hits-begin, omega arith)
+loop-holds c = (search hits-begin, omega arith, search needs)
 
 mul-wider : tie.Need-mul-wider Inv-loop μ-loop
 mul-wider c = search needs
@@ -28,8 +32,26 @@ shared-slice-read-wider c = search needs
 wider-requires : tie.Need-wider-requires Inv-loop μ-loop
 wider-requires c κs = search needs
 
+matcher-at-requires-2 : tie.Need-matcher-at-requires-2 Inv-loop μ-loop
+matcher-at-requires-2 c κs =
+    let s = c .before .before .before .before .before .before .before .before .before .before .before .before in
+    let t = s .pre .0 in
+    let q = s .pre .2 in
+    let h = c .before .before .before .loop-test .taken in
+    search turn-matcher
+
 put-hit-requires : tie.Need-put-hit-requires Inv-loop μ-loop
-put-hit-requires c κs = (search needs, search needs, search good-at, search hits-room)
+put-hit-requires c κs =
+    let b = c .before .before in
+    let l = b .before .before .before in
+    let s = l .before .before .before .before .before .before .before .before in
+    let t = s .pre .0 in
+    let q = s .pre .2 in
+    let h = b .before .before .loop-test .taken in
+    let e = b .wider .ensures in
+    let w = l .loop .inv .0 in
+    let em : c .before .if1 .m ≡ matcherAt (now (s .args .table)) (b .wider .result / 2048) = ⊎-elim (λ w. cc) (λ w. cc) (c .before .if1 .came) in
+    (search turn-ready, search needs, search turn-spec, search turn-item, search turn-gives, turn-room _ _ _ _ t _ _ _ _ _ q _ h _ e _ em _ _ _ _ w)
 
 add-k : tie.Need-add-k Inv-loop μ-loop
 add-k c = search needs
@@ -39,12 +61,18 @@ loop-less c = omega arith
 
 loop-again : tie.Need-loop-again Inv-loop μ-loop
 loop-again c =
-    let b = c .before .before .before .before .before .before .before in
-    let a = b .before .before .before .before .before .before .before .args in
-    let w = b .loop .inv .0 in
-    let e = c .before .before .before .wider .ensures in
-    let q = c .before .before .put-hit .ensures in
-    (rows-next (a .back) (now (a .specs)) (now (a .table)) (now (a .items)) (now (a .places)) (now (a .hits)) (a .noted) (search needs) (now (a .out)) (a .at) (b .loop .k) (b .loop .out) (b .loop .end) w (search needs) _ e _ _ q, omega arith)
+    let j = c .before .before .before .before in
+    let b = j .before in
+    let l = b .before .before .before in
+    let s = l .before .before .before .before .before .before .before .before in
+    let t = s .pre .0 in
+    let q = s .pre .2 in
+    let h = b .before .before .loop-test .taken in
+    let e = b .wider .ensures in
+    let w = l .loop .inv .0 in
+    let em : j .if1 .m ≡ matcherAt (now (s .args .table)) (b .wider .result / 2048) = ⊎-elim (λ w. cc) (λ w. cc) (j .if1 .came) in
+    let f : j .if1 .m ≡ matcherAt (now (s .args .table)) (j .if1 .last) = ⊎-elim (λ w. cc) (λ w. cc) (j .if1 .came) in
+    (turn-next _ _ _ _ t _ _ _ _ _ q _ h _ e _ em _ _ _ _ w _ _ (c .before .before .put-hit .ensures), omega arith, f)
 
 same-length : tie.Need-same-length Inv-loop μ-loop
 same-length c = search needs
@@ -58,10 +86,12 @@ put-hits-spec =
     (tie.spec
     Inv-loop
     μ-loop
+    matcher-at-requires
     loop-holds
     mul-wider
     shared-slice-read-wider
     wider-requires
+    matcher-at-requires-2
     put-hit-requires
     add-k
     loop-less
