@@ -1,5 +1,5 @@
 -- The negatives of a group, added to a table one by one. Assumes nothing.
-use Prim.Native.Nat.{ℕ, _+_, _≤_, _<_}
+use Prim.Native.Nat.{ℕ, _+_, _*_, _≤_, _<_}
 use native.Mathlib.Nat.{eq-or-lt-of-le}
 use native.Mathlib.Numerals.{add-one}
 use native.Mathlib.Omega.{arith}
@@ -75,7 +75,7 @@ pub negatives-none : (s : Text) (t : List ℕ) → Negatives s [] t 0
 negatives-none s t = record { room = omega arith; within = λ k l. absurd (omega arith); decides = λ name. refl; few = omega arith }
 
 -- a spec that is added joins the group
-module _ (s : Text) (t : List ℕ) (k : ℕ) (u : List ℕ) (count : ℕ) (room : 1024 ≤ length t) (few : k < 256) where
+module _ (s : Text) (t : List ℕ) (k : ℕ) (u : List ℕ) (count : ℕ) (room : 4 * k + 4 ≤ length t) (few : k < 256) where
   pub negatives-more : (group : List Spec) (spec : Spec) → Negatives s group t k → Added s spec t k u count → Negatives s (group ++ (spec ∷ [])) u count
   negatives-more group spec n a = record {
     room = omega (arith, a .size, a .one);
@@ -85,48 +85,8 @@ module _ (s : Text) (t : List ℕ) (k : ℕ) (u : List ℕ) (count : ℕ) (room 
   }
 
   -- record number i of a table joins those before it
-  pub negatives-next : (table : List RefSpec) (i : ℕ) → i < length table → (d : RefSpec)
-      → Negatives s (map (specMeant s) (take i table)) t k → Added s (specMeant s (getD table i d)) t k u count → Negatives s (map (specMeant s) (take (i + 1) table)) u count
-  negatives-next table i h d n a =
-      rw (add-one i, take-suc table i d h, map-append (specMeant s) (take i table) (getD table i d ∷ []))
-      (negatives-more (map (specMeant s) (take i table)) (specMeant s (getD table i d)) n a)
-
--- the same for a loop: the negatives of i specs stand in `out`, which `start` was at first
-pub record Filling (s : Text) (group : List Spec) (start out : List ℕ) (count i : ℕ) : Type 0 where
-  pub fewer : count ≤ i
-  pub size : length out ≡ length start
-  pub holds : Negatives s group out count
-
-pub filling-starts : (s : Text) (out : List ℕ) → Filling s [] out out 0 0
-filling-starts s out = record { fewer = omega arith; size = refl; holds = negatives-none s out }
-
-module _ (s : Text) (group : List Spec) (start out : List ℕ) (count i : ℕ) (f : Filling s group start out count i) (n : ℕ) (l : i < n) (h : n ≤ 256) where
-  -- there is room for another
-  pub filling-few : count < 256
-  filling-few = omega (arith, f .fewer)
-
-  module _ (long : 1024 ≤ length start) where
-    pub filling-room : 1024 ≤ length out
-    filling-room = omega (arith, f .size)
-
-    -- one more spec
-    pub filling-more : (spec : Spec) (out₁ : List ℕ) (count₁ : ℕ) → Added s spec out count out₁ count₁ → Filling s (group ++ (spec ∷ [])) start out₁ count₁ (i + 1)
-    filling-more spec out₁ count₁ a = record {
-      fewer = omega (arith, f .fewer, a .one);
-      size = a .size ∙ f .size;
-      holds = negatives-more s out count out₁ count₁ filling-room filling-few group spec (f .holds) a;
-    }
-
--- and for one over a table of records
-module _ (s : Text) (table : List RefSpec) (start out : List ℕ) (count i : ℕ) (f : Filling s (map (specMeant s) (take i table)) start out count i) (n : ℕ) where
-  pub filling-next : length table ≡ 256 → i < n → n ≤ 256 → 1024 ≤ length start → (d : RefSpec) (out₁ : List ℕ) (count₁ : ℕ) → Added s (specMeant s (getD table i d)) out count out₁ count₁
-      → Filling s (map (specMeant s) (take (i + 1) table)) start out₁ count₁ (i + 1)
-  filling-next e l h long d out₁ count₁ a = record {
-    fewer = omega (arith, f .fewer, a .one);
-    size = a .size ∙ f .size;
-    holds = negatives-next s out count out₁ count₁ (omega (arith, f .size)) (omega (arith, f .fewer)) table i (omega arith) d (f .holds) a;
-  }
-
-  -- after the last, they are those of the group
-  pub filling-whole : i ≤ n → n ≤ i → Negatives s (map (specMeant s) (take n table)) out count
-  filling-whole a b = let e : i ≡ n = omega arith in rw e at (f .holds)
+  pub negatives-next : {A : Type 0} (f : A → Spec) (table : List A) (i : ℕ) → i < length table → (d : A)
+      → Negatives s (map f (take i table)) t k → Added s (f (getD table i d)) t k u count → Negatives s (map f (take (i + 1) table)) u count
+  negatives-next f table i h d n a =
+      rw (add-one i, take-suc table i d h, map-append f (take i table) (getD table i d ∷ []))
+      (negatives-more (map f (take i table)) (f (getD table i d)) n a)

@@ -56,6 +56,10 @@ module _ (f : ℕ → Text) (hits : List ℕ) (noted : ℕ) (all : noted ≤ len
           ends = written-place first at (each (take noted hits) f) out end (each (drop k (take noted hits)) f) w e;
         }
 
+  -- no hit gives nothing
+  pub hits-none : noted ≡ 0 → at + length (each (take noted hits) f) ≤ length first → Put first at (each (take noted hits) f) first at
+  hits-none z h = hits-end 0 first at (hits-begin h) (omega arith)
+
 -- ---- one hit
 
 module _ (places : List ℕ) where
@@ -108,6 +112,11 @@ module _ (back : Bool) (items : Text) (places : List ℕ) (n : ℕ) (p : PlacesI
 
         pub hit-put : (d : Text) (at : ℕ) (o : Text) (e : ℕ) → Put d at (fieldBytes back (hit / 2048) (hit % 2048) name s) o e → Put d at (underSpec back items places hit s) o e
         hit-put d at o e q = rw same at q
+
+-- ---- where there is a hit there is a spec
+
+pub first-matcher : (back : Bool) (specs : Text) (table : List ℕ) (group : ℕ) → TableReady specs table group → (items : Text) (places : List ℕ) (n : ℕ) (hits : List ℕ) (noted : ℕ) → AllGood back specs table group items places n hits noted → (noted ≡ 0 → ⊥) → 10 * 0 + 10 ≤ length table
+first-matcher back specs table group t items places n hits noted q z = let h : 0 < noted = omega arith in omega (arith, q .each-good 0 h .spec-there, t .room)
 
 -- ---- a turn of the loop: hit number k, of a spec whose matcher is at hand
 

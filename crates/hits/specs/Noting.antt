@@ -26,7 +26,7 @@ pub record PlacesIn (items : Text) (places : List ℕ) (n : ℕ) : Type 0 where
 -- the first n matchers of a table are those of specs
 pub record TableReady (specs : Text) (table : List ℕ) (n : ℕ) : Type 0 where
   pub few : n ≤ specCount
-  pub room : 2560 ≤ length table
+  pub room : 10 * n ≤ length table
   pub ready : (i : ℕ) → i < n → Ready specs (matcherAt table i)
 
 -- what a filter stops has no row under the spec of a matcher, forward or in reverse

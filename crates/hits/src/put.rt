@@ -94,6 +94,9 @@ pub fn put_hits(
         × (at + length (each (take noted (now hits)) (hitBytes back (now specs) (now table) (now items) (now places))) ≤ length (now out)) ⌝ }
     ensures { λ r. ⌜ Put (now (out .entry)) at (each (take noted (now (hits .entry))) (hitBytes back (now (specs .entry)) (now (table .entry)) (now (items .entry)) (now (places .entry)))) (now (out .exit)) r ⌝ }
 {
+    if noted == 0 {
+        return at;
+    }
     let mut end = at;
     let mut last = 0;
     let mut m = matcher_at(table, 0);

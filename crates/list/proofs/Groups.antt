@@ -17,12 +17,14 @@ use Rattle.promises.proofs.Members.{specs-long}
 use Rattle.promises.proofs.Steps.{specs-shrink, list-records}
 use Rattle.parse.specs.declared.types.RefSpec.{RefSpec}
 use Rattle.parse.specs.Places.{SidesWithin, specMeant}
+use Rattle.sides.proofs.Told.{side-wider}
 use Rattle.list.specs.declared.cursor.Cursor.{Cursor}
 use Rattle.list.specs.declared.specs.SpecStep.{SpecStep}
 use Rattle.list.specs.declared.specs.SpecStep.the-variants as found
 use Rattle.list.specs.declared.specs.Group.{Group}
-use Rattle.list.specs.Group.{groupMeant, AllWithin, GroupRefused, GroupRead, SpecTaken, SpecTurned, SpecSays}
-use Rattle.list.specs.Table.{blank, specAt}
+use Rattle.list.specs.declared.record.SpecRecord.{SpecRecord}
+use Rattle.list.specs.Group.{recordMeant, groupMeant, AllWithin, GroupRefused, GroupRead, SpecTaken, SpecTurned, SpecSays}
+use Rattle.list.specs.Table.{specFrom, blank, specAt}
 use Rattle.list.proofs.Records.{records-past, records-no, records-took}
 use Rattle.list.proofs.Refusals.{specs-positive}
 
@@ -39,22 +41,22 @@ after-first : (l : List Spec) (x : Spec) (a : Answer (List Spec)) → readAfter 
 after-first l x (accepted m) = ap (λ (k : List Spec). accepted k) (sym (append-assoc l (x ∷ []) m))
 after-first l x (refused n r) = refl
 
-within-more : (len : ℕ) (l : List RefSpec) (r : RefSpec) → AllWithin len l → SidesWithin len r → AllWithin len (l ++ (r ∷ []))
-within-more len [] r w h = (h, tt)
-within-more len (q ∷ l) r w h = (w .0, within-more len l r (w .1) h)
+within-more : (len : ℕ) (l : List SpecRecord) (q : SpecRecord) → AllWithin len l → SidesWithin len (specFrom q) → AllWithin len (l ++ (q ∷ []))
+within-more len [] q w h = (h, tt)
+within-more len (p ∷ l) q w h = (w .0, within-more len l q (w .1) h)
 
 -- a spec list is read into a table as far as a place, with j specs behind it
-pub record Filling (op : ℕ) (s : Text) (t : List RefSpec) (at j : ℕ) : Type 0 where
+pub record Filling (op : ℕ) (s : Text) (t : List SpecRecord) (at j : ℕ) : Type 0 where
   pub size : length t ≡ 256
   pub count : j ≤ 256
   pub whole : readAfter (groupMeant s (take j t)) (records (specRecord op) j (drop at s)) ≡ records (specRecord op) 0 s
   pub sides : AllWithin (length s) (take j t)
 
 -- nothing is read yet
-pub filling-starts : (op : ℕ) (s : Text) (t : List RefSpec) (at : ℕ) → length t ≡ 256 → at ≡ 0 → Filling op s t at 0
+pub filling-starts : (op : ℕ) (s : Text) (t : List SpecRecord) (at : ℕ) → length t ≡ 256 → at ≡ 0 → Filling op s t at 0
 filling-starts op s t at h e = record { size = h; count = omega arith; whole = rw e (after-none (records (specRecord op) 0 s)); sides = tt }
 
-module _ (op : ℕ) (s : Text) (t : List RefSpec) (at j : ℕ) (f : Filling op s t at j) (w : SpecStep) (says : SpecSays op j s at w) where
+module _ (op : ℕ) (s : Text) (t : List SpecRecord) (at j : ℕ) (f : Filling op s t at j) (w : SpecStep) (says : SpecSays op j s at w) where
   module _ (r : RefSpec) (next : Cursor) (e : w ≡ found.Spec r next) where
     told : SpecTaken op j s at r (next .at)
     told = rw e at says
@@ -67,21 +69,25 @@ module _ (op : ℕ) (s : Text) (t : List RefSpec) (at j : ℕ) (f : Filling op s
     pub filling-less : length s - next .at < length s - at
     filling-less = omega (arith, told .on, told .within)
 
-    -- one more spec
-    pub filling-more : Filling op s (set t j r) (next .at) (j + 1)
-    filling-more =
+    -- its sides are small enough for a record
+    pub filling-small : length s ≤ 65535 → SidesWithin 65535 r
+    filling-small h = record { src-within = side-wider (length s) 65535 (r .src) h (told .sides .src-within); dst-within = side-wider (length s) 65535 (r .dst) h (told .sides .dst-within) }
+
+    -- one more spec, as a record of it
+    pub filling-more : (y : SpecRecord) → specFrom y ≡ r → Filling op s (set t j y) (next .at) (j + 1)
+    filling-more y e =
         let k : j < length t = omega (arith, f .size, told .number) in
-        let p : take (j + 1) (set t j r) ≡ take j t ++ (r ∷ []) = rw (add-one j) (take-suc-set t j r k) in
-        let q : groupMeant s (take j t ++ (r ∷ [])) ≡ groupMeant s (take j t) ++ (specMeant s r ∷ []) = map-append (specMeant s) (take j t) (r ∷ []) in
+        let p : take (j + 1) (set t j y) ≡ take j t ++ (y ∷ []) = rw (add-one j) (take-suc-set t j y k) in
+        let q : groupMeant s (take j t ++ (y ∷ [])) ≡ groupMeant s (take j t) ++ (specMeant s r ∷ []) = rw (← e) (map-append (recordMeant s) (take j t) (y ∷ [])) in
         let c = records-took (specRecord op) (specs-shrink op) s at j (specMeant s r) (drop (next .at) s) (told .here) (told .reads) in
         record {
-          size = length-set t j r ∙ f .size;
+          size = length-set t j y ∙ f .size;
           count = omega (arith, told .number);
           whole =
               rw (p, q, add-one j)
               (sym (after-first (groupMeant s (take j t)) (specMeant s r) (records (specRecord op) (suc j) (drop (next .at) s)))
               ∙ rw c at (f .whole));
-          sides = rw p (within-more (length s) (take j t) r (f .sides) (told .sides));
+          sides = rw p (within-more (length s) (take j t) y (f .sides) (rw e (told .sides)));
         }
 
   -- at the end all are read
@@ -90,7 +96,7 @@ module _ (op : ℕ) (s : Text) (t : List RefSpec) (at j : ℕ) (f : Filling op s
       let h : length s ≤ at = rw e at says in
       let c : readAfter (groupMeant s (take j t)) (accepted []) ≡ records (specRecord op) 0 s = rw (records-past (specRecord op) (specs-shrink op) s at j h) at (f .whole) in
       let d : accepted (groupMeant s (take j t)) ≡ records (specRecord op) 0 s = ap (λ (k : List Spec). accepted k) (sym (append-nil (groupMeant s (take j t)))) ∙ c in
-      let n : length (groupMeant s (take j t)) ≡ j = length-map (take j t) (specMeant s) ∙ length-take-le j t (omega (arith, f .size, f .count)) in
+      let n : length (groupMeant s (take j t)) ≡ j = length-map (take j t) (recordMeant s) ∙ length-take-le j t (omega (arith, f .size, f .count)) in
       rw (← d) (record { refusal-is = refl; record-is = refl; count-is = sym n; count-within = f .count; means = refl; within = f .sides })
 
   -- a spec is refused
@@ -115,23 +121,23 @@ module _ (op : ℕ) (s : Text) (g : Group) where
 
 -- record i of a table that is lent, as `spec_of` hands it on
 
-pub all-within : (len : ℕ) (l : List RefSpec) (i : ℕ) → i < length l → AllWithin len l → SidesWithin len (specAt l i)
+pub all-within : (len : ℕ) (l : List SpecRecord) (i : ℕ) → i < length l → AllWithin len l → SidesWithin len (specFrom (specAt l i))
 all-within len [] i h w = absurd (omega arith)
 all-within len (r ∷ l) zero h w = w .0
 all-within len (r ∷ l) (suc i) h w = all-within len l i (omega arith) (w .1)
 
-module _ (t : List RefSpec) (n i : ℕ) (r : RefSpec) (is : r ≡ specAt (take n t) i) (size : length t ≡ 256) (few : n ≤ 256) (below : i < n) where
+module _ (t : List SpecRecord) (n i : ℕ) (r : SpecRecord) (is : r ≡ specAt (take n t) i) (size : length t ≡ 256) (few : n ≤ 256) (below : i < n) where
   there : i < length (take n t)
   there = omega (arith, length-take-le n t (omega arith))
 
   -- the group from place i on is that spec and those after it
-  pub table-next : (s : Text) → groupMeant s (drop i (take n t)) ≡ specMeant s r ∷ groupMeant s (drop (suc i) (take n t))
+  pub table-next : (s : Text) → groupMeant s (drop i (take n t)) ≡ recordMeant s r ∷ groupMeant s (drop (suc i) (take n t))
   table-next s = rw is (ap (groupMeant s) (drop-cons (take n t) i blank there))
 
   -- and its sides stand within the list
-  pub table-within : (len : ℕ) → AllWithin len (take n t) → SidesWithin len r
+  pub table-within : (len : ℕ) → AllWithin len (take n t) → SidesWithin len (specFrom r)
   table-within len w = rw is (all-within len (take n t) i there w)
 
 -- from the last place on there are none
-pub table-end : (t : List RefSpec) (n i : ℕ) → n ≤ i → (s : Text) → groupMeant s (drop i (take n t)) ≡ []
+pub table-end : (t : List SpecRecord) (n i : ℕ) → n ≤ i → (s : Text) → groupMeant s (drop i (take n t)) ≡ []
 table-end t n i h s = let k : length (take n t) ≤ i = omega (arith, length-take n t) in ap (groupMeant s) (drop-of-length-le (take n t) k)

@@ -5,7 +5,7 @@
 -- `Groups`: a spec list that is being read into a table. `Told`: what the numbers of an answer tell. `Standing`: where the names of an
 -- item list stand. `RowQuestions`: question 16. `RowStages`: a row read part by part. `RowSteps`: what is told of the row at a place of its
 -- list, and the list that is being read. `RowWalks`: a walk over a row list that was read. `TableParts`: a table in memory is its first
--- records and the others.
+-- records and the others. `Compact`: a record tells its spec.
 pub mod Texts
 pub mod Records
 pub mod ItemRecords
@@ -24,3 +24,4 @@ pub mod RowStages
 pub mod RowSteps
 pub mod RowWalks
 pub mod TableParts
+pub mod Compact

@@ -17,6 +17,8 @@ use Rattle.list.specs.declared.cursor.Cursor.{Cursor}
 use Rattle.list.specs.declared.specs.SpecStep.{SpecStep}
 use Rattle.list.specs.declared.specs.SpecStep.the-variants as found
 use Rattle.list.specs.declared.specs.Group.{Group}
+use Rattle.list.specs.declared.record.SpecRecord.{SpecRecord}
+use Rattle.list.specs.Table.{specFrom}
 
 -- a side of a text that begins at `start` of a list, as a place in the list
 abbrev pub shiftedSide : ℕ → Side → Side
@@ -28,16 +30,20 @@ shiftedSide start Head = Head
 unfoldable pub shifted : ℕ → RefSpec → RefSpec
 shifted start r = record { mode = r .mode; src = shiftedSide start (r .src); dst = shiftedSide start (r .dst) }
 
--- the specs that places in a list denote
-abbrev pub groupMeant : Text → List RefSpec → List Spec
-groupMeant s l = map (specMeant s) l
+-- the spec that a record denotes in a list
+abbrev pub recordMeant : Text → SpecRecord → Spec
+recordMeant s q = specMeant s (specFrom q)
+
+-- the specs that records denote
+abbrev pub groupMeant : Text → List SpecRecord → List Spec
+groupMeant s l = map (recordMeant s) l
 
 -- the sides of each spec stand within so many bytes
-abbrev pub AllWithin : ℕ → List RefSpec → Type 0
+abbrev pub AllWithin : ℕ → List SpecRecord → Type 0
 AllWithin len [] = Unit {0}
-AllWithin len (r ∷ l) = SidesWithin len r × AllWithin len l
+AllWithin len (q ∷ l) = SidesWithin len (specFrom q) × AllWithin len l
 
--- a group that was read: its specs, as places in the list
+-- a group that was read: its specs, as records of places in the list
 pub record GroupIs (list : Text) (g : Group) (group : List Spec) : Type 0 where
   pub refusal-is : g .refusal ≡ 0
   pub record-is : g .«record» ≡ 0

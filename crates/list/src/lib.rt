@@ -2,6 +2,7 @@
 pub mod cursor;
 pub mod items;
 pub mod places;
+pub mod record;
 pub mod rows;
 pub mod specs;
 pub mod table;

@@ -1,4 +1,4 @@
-// Reading a spec list: the questions in order, each record in turn, into a table of specs by value.
+// Reading a spec list: the questions in order, each record in turn, into a table of records by value.
 ghost use mathlib.Core.Path.{_≡_};
 ghost use mathlib.Core.Option.{none};
 ghost use Prim.Native.Nat.{_+_, _<_, _≤_};
@@ -12,6 +12,8 @@ ghost use Rattle.list.specs.Group.{shiftedSide, shifted, SpecIn, SpecSay
 use super::cursor::Cursor;
 use super::cursor::Step;
 use super::items::Checked;
+use super::record::SpecRecord;
+use super::record::record_of;
 use parse::Parsed;
 use parse::types::Mode;
 use parse::types::RefSpec;
@@ -28,7 +30,7 @@ pub struct Group {
     pub refusal: u64,
     pub record: u64,
     pub count: usize,
-    pub specs: [RefSpec; 256],
+    pub specs: [SpecRecord; 256],
 }
 
 // What stands at a cursor: a spec, as places in the list, with the cursor moved on; the list's end; or a refusal's number.
@@ -98,13 +100,17 @@ fn spec_at(op: u64, list: &[u8], c: Cursor, count: usize) -> SpecStep
 }
 
 // A table with no specs.
-fn no_specs() -> [RefSpec; 256]
+fn no_specs() -> [SpecRecord; 256]
     ensures { λ t. ⌜ length t ≡ 256 ⌝ }
 {
-    let none = RefSpec {
+    let none = SpecRecord {
         mode: Mode::Normal,
-        src: Side::Absent,
-        dst: Side::Absent,
+        src_kind: 0,
+        src_at: 0,
+        src_len: 0,
+        dst_kind: 0,
+        dst_at: 0,
+        dst_len: 0,
     };
     [none; 256]
 }
@@ -134,7 +140,7 @@ fn each_spec(op: u64, list: &[u8]) -> Group
     loop {
         match spec_at(op, list, c, count) {
             SpecStep::Spec { spec, next } => {
-                specs[count] = spec;
+                specs[count] = record_of(spec);
                 c = next;
                 count += 1;
             }

@@ -3,10 +3,10 @@ ghost use mathlib.Core.Path.{_≡_};
 ghost use Prim.Native.Nat.{_<_, _≤_};
 ghost use lib.ListN.{length, take};
 ghost use Rattle.list.specs.Table.{specAt};
-use parse::types::RefSpec;
+use super::record::SpecRecord;
 
 // Record number i of a table that is lent.
-pub fn spec_at(table: &[RefSpec], i: usize) -> RefSpec
+pub fn spec_at(table: &[SpecRecord], i: usize) -> SpecRecord
     requires { ⌜ i < length (now table) ⌝ }
     ensures { λ r. ⌜ r ≡ specAt (now (table .entry)) i ⌝ }
 {
@@ -14,7 +14,7 @@ pub fn spec_at(table: &[RefSpec], i: usize) -> RefSpec
 }
 
 // Record number i of a group: the first n records of its table, which came by value, are lent.
-pub fn spec_of(table: [RefSpec; 256], n: usize, i: usize) -> RefSpec
+pub fn spec_of(table: [SpecRecord; 256], n: usize, i: usize) -> SpecRecord
     requires { ⌜ (n ≤ 256) × (i < n) ⌝ }
     ensures { λ r. ⌜ r ≡ specAt (take n table) i ⌝ }
 {

@@ -25,7 +25,6 @@ use Rattle.hits.specs.Hits as hits
 use Rattle.hits.specs.Hits.{across, specAt, pairBytes, groupBytes, objectsBytes}
 use Rattle.hits.specs.Noting.{PlacesIn, TableReady}
 use Rattle.hits.proofs.Across.{across-same}
-use Rattle.noted.specs.declared.read.Noted.{Noted}
 use Rattle.noted.specs.Standing.{Stands}
 use Rattle.noted.specs.Reading.{TableIs}
 use Rattle.match_group.specs.Listing.{eachFrom, itemsFrom, specBytes, listingBytes, firstBytes, tableBytes}
@@ -142,8 +141,8 @@ across-nothing i (suc k) = across-nothing (suc i) k
 
 -- ---- a group in its tables
 
-module _ (specs : Text) (table negatives : List ℕ) (x : Noted) (group : List Spec) (t : TableIs specs table negatives x group) where
-  pub table-ready : 2560 ≤ length table → TableReady specs table (x .count)
+module _ (specs : Text) (table negatives : List ℕ) (m count : ℕ) (group : List Spec) (t : TableIs specs table negatives m count group) where
+  pub table-ready : 10 * m ≤ length table → TableReady specs table m
   table-ready room =
       record {
         few = t .few;
@@ -178,20 +177,20 @@ module _ (specs : Text) (table negatives : List ℕ) (x : Noted) (group : List S
           (λ j a b. let l : j < n = omega arith in stands-item specs s (matcherAt table i) (t .stand i h blank) back gone i j (nameAt items places j) ∙ ap (λ (name : Text). cond (isNegative (s .mode)) [] (itemBytes back gone i j name s)) (sym (p .is j l)))
           ∙ by-sign (isNegative (s .mode))
 
-    group-bytes : groupBytes back gone specs table (x .count) items places n ≡ eachFrom (specBytes back gone names) 0 group
+    group-bytes : groupBytes back gone specs table m items places n ≡ eachFrom (specBytes back gone names) 0 group
     group-bytes =
-        across-same (hits.specBytes back gone specs table items places n) (λ i. specBytes back gone names i (getD group i blank)) 0 (x .count) (λ i a b. spec-bytes i (omega (arith, t .count-is)))
-        ∙ sym (each-numbers (specBytes back gone names) blank group (x .count) (t .count-is))
+        across-same (hits.specBytes back gone specs table items places n) (λ i. specBytes back gone names i (getD group i blank)) 0 m (λ i a b. spec-bytes i (omega (arith, t .count-is)))
+        ∙ sym (each-numbers (specBytes back gone names) blank group m (t .count-is))
 
-    objects-bytes : objectsBytes specs table (x .count) ≡ eachFrom objectBytes 0 group
+    objects-bytes : objectsBytes specs table m ≡ eachFrom objectBytes 0 group
     objects-bytes =
-        across-same (λ i. objectBytes i (specAt specs table i)) (λ i. objectBytes i (getD group i blank)) 0 (x .count) (λ i a b. stands-object specs (getD group i blank) (matcherAt table i) (t .stand i (omega (arith, t .count-is)) blank) i)
-        ∙ sym (each-numbers objectBytes blank group (x .count) (t .count-is))
+        across-same (λ i. objectBytes i (specAt specs table i)) (λ i. objectBytes i (getD group i blank)) 0 m (λ i a b. stands-object specs (getD group i blank) (matcherAt table i) (t .stand i (omega (arith, t .count-is)) blank) i)
+        ∙ sym (each-numbers objectBytes blank group m (t .count-is))
 
-    pub table-bytes : tableBytes back gone specs table (x .count) items places n ≡ listingBytes back gone group (namesOf (readItems items))
+    pub table-bytes : tableBytes back gone specs table m items places n ≡ listingBytes back gone group (namesOf (readItems items))
     table-bytes = go back group-bytes
       where
-        go : (back : Bool) → groupBytes back gone specs table (x .count) items places n ≡ eachFrom (specBytes back gone names) 0 group → tableBytes back gone specs table (x .count) items places n ≡ listingBytes back gone group names
+        go : (back : Bool) → groupBytes back gone specs table m items places n ≡ eachFrom (specBytes back gone names) 0 group → tableBytes back gone specs table m items places n ≡ listingBytes back gone group names
         go true e = e
         go false e = rw (objects-bytes, e)
 

@@ -35,8 +35,8 @@ module _ (specs : Text) (table : List ℕ) (group : ℕ) (hits after : List ℕ)
   pub first-object-hits : (back : Bool) → back ≡ false → Noted after noted (firstHits back specs table group)
   first-object-hits back e = rw e (all-noted hits (objectHits specs table group) after noted a)
 
-  pub first-fits : TableReady specs table group → 256 ≤ length hits → noted ≤ length after
-  first-fits t l = omega (arith, a .fits (omega (arith, objects-few-hits specs table group, t .few)), a .long, objects-few-hits specs table group, t .few)
+  pub first-fits : group ≤ length hits → noted ≤ length after
+  first-fits l = omega (arith, a .fits (omega (arith, objects-few-hits specs table group)), a .long, objects-few-hits specs table group)
 
 pub noted-long : (hits codes after : List ℕ) (noted : ℕ) → Adds hits 0 codes after noted → length after ≡ length hits
 noted-long hits codes after noted a = a .long

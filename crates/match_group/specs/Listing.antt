@@ -4,12 +4,14 @@ use Prim.Native.Nat.{ℕ, suc, _≤_}
 use mathlib.Core.Bool.{Bool, true, false, cond}
 use mathlib.Core.Path.{_≡_}
 use mathlib.Core.List.{List, [], _∷_, _++_}
+use mathlib.Core.Option.{some}
 use lib.ListN.{length, take}
 use Rattle.meaning.specs.Bytes.{Text}
-use Rattle.meaning.specs.Spec.{Answer, Spec, isNegative}
+use Rattle.meaning.specs.Spec.{Answer, accepted, Spec, isNegative}
+use Rattle.meaning.specs.Lists.{readItems}
 use Rattle.meaning.specs.Buffers.{Written}
-use Rattle.meaning.specs.Entries.{matchLhs, matchRhs}
-use Rattle.meaning.specs.Rows.{Row}
+use Rattle.meaning.specs.Entries.{_andThen_, matchLhs, matchRhs}
+use Rattle.meaning.specs.Rows.{Row, rowListOf}
 use Rattle.meaning.specs.Listing.{forwardRows, reverseRows}
 use Rattle.pair.specs.Pairs.{itemBytes, objectBytes}
 use Rattle.hits.specs.Hits.{groupBytes, objectsBytes, objectHits}
@@ -36,6 +38,10 @@ specBytes reverse gone names i s = cond (isNegative (s .mode)) [] (itemsFrom (it
 abbrev pub listingBytes : Bool → (Text → Bool) → List Spec → List Text → Text
 listingBytes true gone group names = eachFrom (specBytes true gone names) 0 group
 listingBytes false gone group names = eachFrom objectBytes 0 group ++ eachFrom (specBytes false gone names) 0 group
+
+-- what the listing of a group answers on an item list
+abbrev pub listing : Bool → List Spec → Text → Answer Written
+listing back group items = readItems items andThen λ names. accepted (some (rowListOf (rowsIn back group names)) ∷ [])
 
 -- what a listing answers, forward or in reverse
 abbrev pub listed : Bool → ℕ → Text → Text → Answer Written

@@ -21,7 +21,7 @@ use write::written::Written;
 
 // Measures and notes what comes first: forward, the rows of object sources, whatever the items.
 fn first_found(back: bool, specs: &[u8], table: &[u16], group: usize, hits: &mut [u32]) -> Found
-    requires { ⌜ TableReady (now specs) (now table) group × (256 ≤ length (now hits)) × (length (now hits) ≤ 65536) ⌝ }
+    requires { ⌜ TableReady (now specs) (now table) group × (group ≤ length (now hits)) × (length (now hits) ≤ 65536) ⌝ }
     ensures { λ x. ⌜ (x .size ≡ length (firstBytes back (now (specs .entry)) (now (table .entry)) group)) × (x .size ≤ 128000000)
         × Noted (now (hits .exit)) (x .hits) (firstHits back (now (specs .entry)) (now (table .entry)) group) × (x .hits ≤ length (now (hits .exit))) ⌝ }
 {
@@ -271,7 +271,7 @@ fn list_rows(
     hits: &mut [u32],
     out: &mut [u8],
 ) -> Written
-    requires { ⌜ TableReady (now specs) (now table) group × PlacesIn (now items) (now places) n × Askable (now specs) (now negatives) count × (256 ≤ length (now first)) × (length (now first) ≤ 65536) × (1024 ≤ length (now hits)) × (length (now hits) ≤ 65536) ⌝ }
+    requires { ⌜ TableReady (now specs) (now table) group × PlacesIn (now items) (now places) n × Askable (now specs) (now negatives) count × (group ≤ length (now first)) × (length (now first) ≤ 65536) × (1024 ≤ length (now hits)) × (length (now hits) ≤ 65536) ⌝ }
     ensures { λ w. ⌜ MeetsOne (accepted (some (tableBytes back (excludedBy (now (specs .entry)) (now (negatives .entry)) count) (now (specs .entry)) (now (table .entry)) group (now (items .entry)) (now (places .entry)) n) ∷ [])) (now (out .entry)) (now (out .exit)) (w .refusal) (w .record) (w .length) ⌝ }
 {
     let objects = first_found(back, specs, table, group, first);
@@ -318,7 +318,7 @@ fn list_rows(
     }
 }
 
-// The listing of a group in its tables.
+// The listing of a group in its tables, with room for the hits of objects.
 pub(crate) fn list_group(
     back: bool,
     specs: &[u8],
@@ -329,12 +329,12 @@ pub(crate) fn list_group(
     n: usize,
     negatives: &[u16],
     count: usize,
+    first: &mut [u32],
     out: &mut [u8],
 ) -> Written
-    requires { ⌜ TableReady (now specs) (now table) group × PlacesIn (now items) (now places) n × Askable (now specs) (now negatives) count ⌝ }
+    requires { ⌜ TableReady (now specs) (now table) group × PlacesIn (now items) (now places) n × Askable (now specs) (now negatives) count × (group ≤ length (now first)) × (length (now first) ≤ 65536) ⌝ }
     ensures { λ w. ⌜ MeetsOne (accepted (some (tableBytes back (excludedBy (now (specs .entry)) (now (negatives .entry)) count) (now (specs .entry)) (now (table .entry)) group (now (items .entry)) (now (places .entry)) n) ∷ [])) (now (out .entry)) (now (out .exit)) (w .refusal) (w .record) (w .length) ⌝ }
 {
-    let mut first = [0u32; 256];
     let mut hits = [0u32; 1024];
     list_rows(
         back,
@@ -346,7 +346,7 @@ pub(crate) fn list_group(
         n,
         negatives,
         count,
-        &mut first,
+        first,
         &mut hits,
         out,
     )

@@ -1,15 +1,24 @@
 // The forward and the reverse listing of items under specs, as row lists. Port of the crate's match_group/mod.rs.
 ghost use mathlib.Core.Path.{_≡_};
+ghost use Prim.Native.Nat.{_*_, _≤_};
+ghost use lib.ListN.{length, take};
 ghost use Rattle.meaning.specs.Buffers.{MeetsOne};
 ghost use Rattle.meaning.specs.Entries.{matchLhs, matchRhs};
-ghost use Rattle.match_group.specs.Listing.{listed};
+ghost use Rattle.list.specs.Group.{groupMeant};
+ghost use Rattle.noted.specs.Reading.{Grouped};
+ghost use Rattle.match_group.specs.Listing.{listing, listed};
 
 mod group;
 
 use group::list_group;
 use list::places::read_places;
-use noted::read::read_table;
+use list::record::SpecRecord;
+use list::specs::read_specs;
+use noted::note_group;
 use write::written::Written;
+
+// How many specs are few.
+const FEW: usize = 16;
 
 // A call that is refused writes nothing.
 fn refused(refusal: u64, record: u64) -> Written
@@ -22,16 +31,22 @@ fn refused(refusal: u64, record: u64) -> Written
     }
 }
 
-// The listing of a spec list and an item list, forward or in reverse.
-fn list(back: bool, op: u64, specs: &[u8], items: &[u8], out: &mut [u8]) -> Written
-    ensures { λ w. ⌜ MeetsOne (listed back op (now (specs .entry)) (now (items .entry))) (now (out .entry)) (now (out .exit)) (w .refusal) (w .record) (w .length) ⌝ }
+// The listing of a group, the first n records of a table, which is noted in tables that have room for it.
+fn list_in(
+    back: bool,
+    specs: &[u8],
+    records: [SpecRecord; 256],
+    n: usize,
+    items: &[u8],
+    table: &mut [u16],
+    negatives: &mut [u16],
+    first: &mut [u32],
+    out: &mut [u8],
+) -> Written
+    requires { ⌜ Grouped (now specs) records n × (10 * n ≤ length (now table)) × (4 * n ≤ length (now negatives)) × (n ≤ length (now first)) × (length (now first) ≤ 65536) ⌝ }
+    ensures { λ w. ⌜ MeetsOne (listing back (groupMeant (now (specs .entry)) (take n records)) (now (items .entry))) (now (out .entry)) (now (out .exit)) (w .refusal) (w .record) (w .length) ⌝ }
 {
-    let mut table = [0u16; 2560];
-    let mut negatives = [0u16; 1024];
-    let g = read_table(op, specs, &mut table, &mut negatives);
-    if g.refusal != 0 {
-        return refused(g.refusal, g.record);
-    }
+    let count = note_group(specs, records, n, table, negatives);
     let mut places = [0u16; 2048];
     let c = read_places(items, &mut places);
     if c.refusal != 0 {
@@ -40,15 +55,88 @@ fn list(back: bool, op: u64, specs: &[u8], items: &[u8], out: &mut [u8]) -> Writ
     list_group(
         back,
         specs,
-        &table,
-        g.count,
+        table,
+        n,
         items,
         &places,
         c.count,
-        &negatives,
-        g.negatives,
+        negatives,
+        count,
+        first,
         out,
     )
+}
+
+// The listing of a group of few specs: small tables are sooner cleared.
+fn list_few(
+    back: bool,
+    specs: &[u8],
+    records: [SpecRecord; 256],
+    n: usize,
+    items: &[u8],
+    out: &mut [u8],
+) -> Written
+    requires { ⌜ Grouped (now specs) records n × (n ≤ 16) ⌝ }
+    ensures { λ w. ⌜ MeetsOne (listing back (groupMeant (now (specs .entry)) (take n records)) (now (items .entry))) (now (out .entry)) (now (out .exit)) (w .refusal) (w .record) (w .length) ⌝ }
+{
+    let mut table = [0u16; 160];
+    let mut negatives = [0u16; 64];
+    let mut first = [0u32; 16];
+    list_in(
+        back,
+        specs,
+        records,
+        n,
+        items,
+        &mut table,
+        &mut negatives,
+        &mut first,
+        out,
+    )
+}
+
+// The listing of a group.
+fn list_many(
+    back: bool,
+    specs: &[u8],
+    records: [SpecRecord; 256],
+    n: usize,
+    items: &[u8],
+    out: &mut [u8],
+) -> Written
+    requires { ⌜ Grouped (now specs) records n ⌝ }
+    ensures { λ w. ⌜ MeetsOne (listing back (groupMeant (now (specs .entry)) (take n records)) (now (items .entry))) (now (out .entry)) (now (out .exit)) (w .refusal) (w .record) (w .length) ⌝ }
+{
+    let mut table = [0u16; 2560];
+    let mut negatives = [0u16; 1024];
+    let mut first = [0u32; 256];
+    list_in(
+        back,
+        specs,
+        records,
+        n,
+        items,
+        &mut table,
+        &mut negatives,
+        &mut first,
+        out,
+    )
+}
+
+// The listing of a spec list and an item list, forward or in reverse.
+fn list(back: bool, op: u64, specs: &[u8], items: &[u8], out: &mut [u8]) -> Written
+    ensures { λ w. ⌜ MeetsOne (listed back op (now (specs .entry)) (now (items .entry))) (now (out .entry)) (now (out .exit)) (w .refusal) (w .record) (w .length) ⌝ }
+{
+    let g = read_specs(op, specs);
+    if g.refusal != 0 {
+        return refused(g.refusal, g.record);
+    }
+    let n = g.count;
+    let records = g.specs;
+    if n <= FEW {
+        return list_few(back, specs, records, n, items, out);
+    }
+    list_many(back, specs, records, n, items, out)
 }
 
 // The forward listing of the items under the specs, as a row list.

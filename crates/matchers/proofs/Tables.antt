@@ -2,7 +2,7 @@
 use Prim.Native.Nat.{ℕ, _+_, _*_, _≤_, _<_}
 use native.Mathlib.Omega.{arith}
 use native.Mathlib.Nat.{add-zero}
-use mathlib.Core.Path.{_≡_, refl, sym, _∙_}
+use mathlib.Core.Path.{_≡_, refl, _∙_}
 use mathlib.Core.Bool.{Bool, true, false}
 use mathlib.Core.List.{List, [], _∷_, _++_}
 use borrow.Author.Tests.{ltb-true, ltb-false}
@@ -15,8 +15,10 @@ use Rattle.parse.specs.declared.types.Side.{Side}
 use Rattle.matcher.specs.declared.types.Needle.{Needle}
 use Rattle.matcher.specs.declared.types.Target.{Target}
 use Rattle.matcher.specs.declared.types.Matcher.{Matcher}
-use Rattle.matchers.specs.Numbers.{sideFrom, needleFrom, targetFrom, matcherAt, Put, sideKind, sideAt, sideLen, needleKind, needleStar, targetKind, targetNumber, sourceNumbers, destinationNumbers}
-use Rattle.matchers.proofs.Told.{side-told, needle-told, target-told}
+use Rattle.sides.specs.Numbers.{sideFrom, sideKind, sideAt, sideLen}
+use Rattle.sides.proofs.Told.{side-told}
+use Rattle.matchers.specs.Numbers.{needleFrom, targetFrom, matcherAt, Put, needleKind, needleStar, targetKind, targetNumber, sourceNumbers, destinationNumbers}
+use Rattle.matchers.proofs.Told.{needle-told, target-told}
 
 -- ---- numbers stored one after the other
 
@@ -149,8 +151,8 @@ module _ (t : Text) (k : ℕ) (m : Matcher) where
     stored-ten = let z = ten-long in record { size = length-splice t (10 * k) ten (omega arith); kept = stored-kept; there = stored-there }
 
   -- both fives tell the matcher, and the others stay
-  pub stored : k < 256 → 2560 ≤ length t → (u v : Text) → u ≡ splice t (10 * k) source → v ≡ splice u (10 * k + 5) destination → Put t k m v
-  stored a b u v e f = let h : 10 * k + 10 ≤ length t = omega arith in rw (after-is h u v e f) (stored-ten h)
+  pub stored : 10 * k + 10 ≤ length t → (u v : Text) → u ≡ splice t (10 * k) source → v ≡ splice u (10 * k + 5) destination → Put t k m v
+  stored h u v e f = rw (after-is h u v e f) (stored-ten h)
 
 -- the ten numbers of number k tell the matcher
 pub numbers-tell : (t : List ℕ) (k : ℕ) (s d : Side) (n : Needle) (r : Target) (x2 x3 x5 x7 x8 x10 : ℕ)

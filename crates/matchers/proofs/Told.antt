@@ -1,5 +1,5 @@
--- The numbers of a side, a needle and a target tell it again, and are small enough for a table. Assumes nothing.
-use Prim.Native.Nat.{ℕ, zero, suc, _+_, _≤_, _<_}
+-- The numbers of a needle and a target tell it again, and are small enough for a table. Assumes nothing.
+use Prim.Native.Nat.{ℕ, zero, suc, _≤_, _<_}
 use native.Mathlib.Omega.{arith}
 use mathlib.Core.Path.{_≡_, refl}
 use Rattle.meaning.specs.Limits.{listBytes}
@@ -12,17 +12,11 @@ use Rattle.matcher.specs.declared.types.Lead.{Lead}
 use Rattle.matcher.specs.declared.types.Lead.the-variants as lead
 use Rattle.matcher.specs.declared.types.Target.{Target}
 use Rattle.matcher.specs.declared.types.Target.the-variants as target
-use Rattle.matcher.specs.declared.types.Matcher.{Matcher}
-use Rattle.matcher.specs.Matching.{StarIn, NeedleWithin, TargetWithin, MatcherWithin}
+use Rattle.matcher.specs.Matching.{StarIn, NeedleWithin, TargetWithin}
 use Rattle.matcher.specs.Sides.{NeedleStar, TargetStar}
-use Rattle.matchers.specs.Numbers.{sideFrom, needleFrom, leadFrom, targetFrom, noMatcher, sideKind, sideAt, sideLen, needleKind, needleStar, leadKind, targetKind, targetNumber}
+use Rattle.matchers.specs.Numbers.{needleFrom, leadFrom, targetFrom, needleKind, needleStar, leadKind, targetKind, targetNumber}
 
 -- ---- numbers tell what they were made of
-pub side-told : (s : Side) → sideFrom (sideKind s) (sideAt s) (sideLen s) ≡ s
-side-told side.Absent = refl
-side-told (side.Part at n) = refl
-side-told side.Head = refl
-
 pub needle-told : (n : Needle) → needleFrom (needleKind n) (needleStar n) ≡ n
 needle-told needle.Absent = refl
 needle-told (needle.Glob star) = refl
@@ -43,14 +37,6 @@ target-told (target.Pattern star) = refl
 target-told (target.Literal l) = rw (lead-told l)
 
 -- ---- a `match` on a number
-pub side-one : (kind at n : ℕ) → kind ≡ 1 → side.Part at n ≡ sideFrom kind at n
-side-one kind at n e = rw e
-
-pub side-rest : (kind at n : ℕ) → (kind ≡ 0 → ⊥) → (kind ≡ 1 → ⊥) → side.Head ≡ sideFrom kind at n
-side-rest zero at n a b = absurd (a refl)
-side-rest (suc zero) at n a b = absurd (b refl)
-side-rest (suc (suc kind)) at n a b = refl
-
 module _ (kind star : ℕ) where
   pub needle-one : kind ≡ 1 → needle.Glob star ≡ needleFrom kind star
   needle-one e = rw e
@@ -95,13 +81,6 @@ pub number-literal : (t : Target) (l : Lead) (r : ℕ) → t ≡ target.Literal 
 number-literal t l r is e = rw is e
 
 -- ---- small numbers
-module _ (s : Side) (at n : ℕ) (is : s ≡ side.Part at n) (w : Within listBytes s) where
-  pub at-small : at ≤ listBytes
-  at-small = let h : at + n ≤ listBytes = rw is at w in omega arith
-
-  pub len-small : n ≤ listBytes
-  len-small = let h : at + n ≤ listBytes = rw is at w in omega arith
-
 pub needle-star-small : (l : Needle) (star : ℕ) → l ≡ needle.Glob star → NeedleStar listBytes l → star ≤ listBytes
 needle-star-small l star is w = let h : star < listBytes = rw is at w in omega arith
 
@@ -125,19 +104,3 @@ module _ (s : Side) (w : Within listBytes s) where
   target-small target.Absent h = tt
   target-small (target.Pattern star) h = star-small star s w h
   target-small (target.Literal l) h = tt
-
--- ---- what callers cite
-
-side-wider : (len more : ℕ) (s : Side) → len ≤ more → Within len s → Within more s
-side-wider len more side.Absent l w = tt
-side-wider len more (side.Part at n) l w = omega arith
-side-wider len more side.Head l w = tt
-
--- a matcher within so many bytes stands within more
-pub matcher-wider : (len more : ℕ) (m : Matcher) → len ≤ more → MatcherWithin len m → MatcherWithin more m
-matcher-wider len more m l w =
-    record { src-within = side-wider len more (m .src) l (w .src-within); dst-within = side-wider len more (m .dst) l (w .dst-within); lhs-within = w .lhs-within; rhs-within = w .rhs-within }
-
--- and one without sides stands anywhere
-pub no-matcher-within : (len : ℕ) → MatcherWithin len noMatcher
-no-matcher-within len = record { src-within = tt; dst-within = tt; lhs-within = tt; rhs-within = tt }

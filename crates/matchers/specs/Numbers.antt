@@ -5,6 +5,7 @@ use mathlib.Core.List.{List, [], _∷_}
 use lib.ListN.{length, getD}
 use Rattle.parse.specs.declared.types.Side.{Side}
 use Rattle.parse.specs.declared.types.Side.the-variants as side
+use Rattle.sides.specs.Numbers.{sideFrom, sideKind, sideAt, sideLen}
 use Rattle.matcher.specs.declared.types.Needle.{Needle}
 use Rattle.matcher.specs.declared.types.Needle.the-variants as needle
 use Rattle.matcher.specs.declared.types.Lead.{Lead}
@@ -12,12 +13,6 @@ use Rattle.matcher.specs.declared.types.Lead.the-variants as lead
 use Rattle.matcher.specs.declared.types.Target.{Target}
 use Rattle.matcher.specs.declared.types.Target.the-variants as target
 use Rattle.matcher.specs.declared.types.Matcher.{Matcher}
-
--- the side that three numbers tell
-abbrev pub sideFrom : ℕ → ℕ → ℕ → Side
-sideFrom zero at n = side.Absent
-sideFrom (suc zero) at n = side.Part at n
-sideFrom (suc (suc more)) at n = side.Head
 
 -- what two numbers tell that a source looks for
 abbrev pub needleFrom : ℕ → ℕ → Needle
@@ -62,24 +57,6 @@ abbrev pub noMatcher : Matcher
 noMatcher = record { src = side.Absent; lhs = needle.Absent; dst = side.Absent; rhs = target.Absent }
 
 -- ---- the numbers
-
--- which side it is
-abbrev pub sideKind : Side → ℕ
-sideKind side.Absent = 0
-sideKind (side.Part at n) = 1
-sideKind side.Head = 2
-
--- where it begins
-abbrev pub sideAt : Side → ℕ
-sideAt side.Absent = 0
-sideAt (side.Part at n) = at
-sideAt side.Head = 0
-
--- how many bytes it has there
-abbrev pub sideLen : Side → ℕ
-sideLen side.Absent = 0
-sideLen (side.Part at n) = n
-sideLen side.Head = 0
 
 -- which needle it is
 abbrev pub needleKind : Needle → ℕ

@@ -8,62 +8,18 @@ ghost use Rattle.buffer.specs.Splice.{splice};
 ghost use Rattle.parse.specs.Places.{Within};
 ghost use Rattle.matcher.specs.Matching.{MatcherWithin};
 ghost use Rattle.matcher.specs.Sides.{NeedleStar, TargetStar};
-ghost use Rattle.matchers.specs.Numbers.{sideFrom, needleFrom, leadFrom, targetFrom, matcherAt, Put, noMatcher, sideKind, sideAt, sideLen, needleKind, needleStar, leadKind, targetKind, targetNumber, sourceNumbers, destinationNumbers};
+ghost use Rattle.matchers.specs.Numbers.{needleFrom, leadFrom, targetFrom, matcherAt, Put, noMatcher, needleKind, needleStar, leadKind, targetKind, targetNumber, sourceNumbers, destinationNumbers};
 use matcher::types::Lead;
 use matcher::types::Matcher;
 use matcher::types::Needle;
 use matcher::types::Target;
 use parse::types::Side;
-
-// A place in a spec list as a number of a table.
-fn narrow(n: usize) -> u16
-    requires { ⌜ n ≤ listBytes ⌝ }
-    ensures { λ r. ⌜ r ≡ n ⌝ }
-{
-    n as u16
-}
-
-// A number of a table as a place.
-fn wide(n: u16) -> usize
-    ensures { λ r. ⌜ r ≡ n ⌝ }
-{
-    n as usize
-}
-
-// Which side it is.
-fn side_kind(side: Side) -> u16
-    ensures { λ r. ⌜ r ≡ sideKind side ⌝ }
-{
-    match side {
-        Side::Absent => 0,
-        Side::Part(_, _) => 1,
-        Side::Head => 2,
-    }
-}
-
-// Where a side begins.
-fn side_at(side: Side) -> u16
-    requires { ⌜ Within listBytes side ⌝ }
-    ensures { λ r. ⌜ r ≡ sideAt side ⌝ }
-{
-    match side {
-        Side::Absent => 0,
-        Side::Part(at, _) => narrow(at),
-        Side::Head => 0,
-    }
-}
-
-// How many bytes of the spec list a side has.
-fn side_len(side: Side) -> u16
-    requires { ⌜ Within listBytes side ⌝ }
-    ensures { λ r. ⌜ r ≡ sideLen side ⌝ }
-{
-    match side {
-        Side::Absent => 0,
-        Side::Part(_, len) => narrow(len),
-        Side::Head => 0,
-    }
-}
+use sides::narrow;
+use sides::side_at;
+use sides::side_from;
+use sides::side_kind;
+use sides::side_len;
+use sides::wide;
 
 // Which needle it is.
 fn needle_kind(lhs: Needle) -> u16
@@ -174,7 +130,7 @@ fn put_destination(table: &mut [u16], i: usize, dst: Side, rhs: Target)
 
 // A matcher is put into a table as number k.
 pub fn put_matcher(table: &mut [u16], k: usize, m: Matcher)
-    requires { ⌜ MatcherWithin listBytes m × (k < 256) × (2560 ≤ length (now table)) ⌝ }
+    requires { ⌜ MatcherWithin listBytes m × (10 * k + 10 ≤ length (now table)) ⌝ }
     ensures { λ r. ⌜ Put (now (table .entry)) k m (now (table .exit)) ⌝ }
 {
     let i = 10 * k;
@@ -184,17 +140,6 @@ pub fn put_matcher(table: &mut [u16], k: usize, m: Matcher)
     let rhs = m.rhs;
     put_source(table, i, src, lhs);
     put_destination(table, i + 5, dst, rhs);
-}
-
-// The side that three numbers tell.
-fn side_from(kind: u16, at: usize, len: usize) -> Side
-    ensures { λ r. ⌜ r ≡ sideFrom kind at len ⌝ }
-{
-    match kind {
-        0 => Side::Absent,
-        1 => Side::Part(at, len),
-        _ => Side::Head,
-    }
 }
 
 // What two numbers tell that a source looks for.

@@ -1,34 +1,24 @@
 -- A group that was read can be noted, and then stands in its tables. Assumes nothing.
-use mathlib.Core.Path.{_≡_, refl, sym, ap, _∙_, subst}
+use mathlib.Core.Path.{_≡_, refl, sym, ap, _∙_}
 use mathlib.Core.List.{List, [], _∷_, map}
-use mathlib.Core.Option.{Option, some}
+use mathlib.Core.Option.{some}
 use Prim.Native.Nat.{ℕ, zero, suc, _+_, _≤_, _<_}
 use native.Mathlib.Omega.{arith}
-use lib.ListN.{length, take, getD}
+use lib.ListN.{length, take, getD, length-map}
 use Rattle.meaning.specs.Bytes.{Text, In, here, there}
-use Rattle.meaning.specs.Spec.{Spec, Answer, accepted, refused, readSpec}
+use Rattle.meaning.specs.Spec.{Spec}
 use Rattle.meaning.specs.Lists.{readSpecs, specRecord}
 use Rattle.promises.proofs.Members.{specs-list, group-texts}
-use Rattle.promises.proofs.Fitting.{Short, spec-short}
-use Rattle.parse.specs.declared.types.RefSpec.{RefSpec}
-use Rattle.parse.specs.Places.{SidesWithin, specMeant}
-use Rattle.matchers.specs.Numbers.{matcherAt}
+use Rattle.promises.proofs.Fitting.{spec-short}
 use Rattle.list.specs.declared.specs.Group.{Group}
-use Rattle.list.specs.Group.{groupMeant, AllWithin, GroupIs, GroupRead}
+use Rattle.list.specs.declared.record.SpecRecord.{SpecRecord}
+use Rattle.list.specs.Table.{blank, specAt}
+use Rattle.list.specs.Group.{recordMeant, groupMeant}
+use Rattle.list.proofs.Groups.{all-within}
 use Rattle.list.proofs.Records.{accepted-within}
-use Rattle.list.proofs.Told.{Failed, GroupPassed, group-passed, group-failed}
-use Rattle.noted.specs.declared.read.Noted.{Noted}
-use Rattle.noted.specs.Standing.{Stands, blank, Notable, NotedAll}
-use Rattle.noted.specs.Reading.{TableIs, TableRefused, TableRead}
-
-within-at : (len : ℕ) (l : List RefSpec) → AllWithin len l → (i : ℕ) → i < length l → SidesWithin len (getD l i blank)
-within-at len [] w i h = absurd (omega arith)
-within-at len (r ∷ l) w zero h = w .0
-within-at len (r ∷ l) w (suc i) h = within-at len l (w .1) i (omega arith)
-
-map-long : {A B : Type 0} (f : A → B) (l : List A) → length (map f l) ≡ length l
-map-long f [] = refl
-map-long f (x ∷ l) = ap suc (map-long f l)
+use Rattle.list.proofs.Told.{GroupPassed}
+use Rattle.noted.specs.Standing.{Notable, NotedAll}
+use Rattle.noted.specs.Reading.{Grouped, TableIs}
 
 map-at : {A B : Type 0} (f : A → B) (l : List A) (i : ℕ) (a : A) (b : B) → i < length l → getD (map f l) i b ≡ f (getD l i a)
 map-at f [] i a b h = absurd (omega arith)
@@ -40,52 +30,52 @@ member [] i d h = absurd (omega arith)
 member (x ∷ l) zero d h = here
 member (x ∷ l) (suc i) d h = there (member l i d (omega arith))
 
-module _ (op : ℕ) (specs : Text) (g : Group) (eg : GroupRead specs g (readSpecs op specs)) where
-  -- a refusal is told
-  pub table-refused : (g .refusal ≡ 0 → ⊥) → (table negatives : List ℕ) (x : Noted) → x .refusal ≡ g .refusal → x .«record» ≡ g .«record» → TableRead specs table negatives x (readSpecs op specs)
-  table-refused z table negatives x e f = go (readSpecs op specs) eg
-    where
-      go : (a : Answer (List Spec)) → GroupRead specs g a → TableRead specs table negatives x a
-      go (accepted l) r = absurd (z (r .refusal-is))
-      go (refused n q) r = record { refusal-is = e ∙ r .refusal-is; some = r .some; record-is = f ∙ r .record-is }
+-- spec number i of a group is what its record denotes
+group-at : (specs : Text) (l : List SpecRecord) (i : ℕ) → i < length l → (d : Spec) → getD (groupMeant specs l) i d ≡ recordMeant specs (specAt l i)
+group-at specs l i h d = map-at (recordMeant specs) l i blank d h
 
-  module _ (z : g .refusal ≡ 0) where
-    passed : GroupPassed specs g (readSpecs op specs)
-    passed = group-passed specs g (readSpecs op specs) eg z
+-- ---- the specs of a list
 
-    abbrev group : List Spec
-    group = passed .members
+module _ (op : ℕ) (specs : Text) (g : Group) (passed : GroupPassed specs g (readSpecs op specs)) where
+  abbrev kept : List SpecRecord
+  kept = take (g .count) (g .specs)
 
-    abbrev kept : List RefSpec
-    kept = take (g .count) (g .specs)
+  long : length kept ≡ g .count
+  long = omega (arith, length-map kept (recordMeant specs), ap length (passed .is .means), passed .is .count-is)
 
-    means : groupMeant specs kept ≡ group
-    means = passed .is .means
+  specs-small : length specs ≤ 65535
+  specs-small = accepted-within 65535 (specRecord op) specs (passed .members) (specs-list op specs (passed .members) (passed .answer))
 
-    long : length kept ≡ g .count
-    long = omega (arith, map-long (specMeant specs) kept, ap length means, passed .is .count-is)
+  pub group-ready : Grouped specs (g .specs) (g .count)
+  group-ready =
+      record {
+        long = long;
+        notable = record { specs-short = specs-small; few = omega (arith, long, passed .is .count-within); sides = λ i h. all-within (length specs) kept i h (passed .is .within) };
+        short = λ i h t e.
+            let d = recordMeant specs blank in
+            let l : i < length kept = omega (arith, long) in
+            let m : i < length (groupMeant specs kept) = omega (arith, long, length-map kept (recordMeant specs)) in
+            let is : In (recordMeant specs (specAt kept i)) (passed .members) = rw (← passed .is .means, ← group-at specs kept i l d) (member (groupMeant specs kept) i d m) in
+            let w = group-texts op specs (passed .members) (passed .answer) (recordMeant specs (specAt kept i)) is in
+            spec-short op (w .0) (recordMeant specs (specAt kept i)) (w .1) .0 t e;
+      }
 
-    specs-small : length specs ≤ 65535
-    specs-small = accepted-within 65535 (specRecord op) specs group (specs-list op specs group (passed .answer))
+-- ---- noted
 
-    pub count-few : g .count ≤ 256
-    count-few = passed .is .count-within
+module _ (specs : Text) (records : List SpecRecord) (n : ℕ) (r : Grouped specs records n) (table negatives : List ℕ) (k : ℕ) (a : NotedAll specs (take n records) table negatives k) where
+  abbrev those : List SpecRecord
+  those = take n records
 
-    pub group-notable : Notable specs (take (g .count) (g .specs))
-    group-notable = record { specs-short = specs-small; few = omega (arith, long, count-few); sides = within-at (length specs) kept (passed .is .within) }
+  group-long : n ≡ length (groupMeant specs those)
+  group-long = sym (length-map those (recordMeant specs) ∙ r .long)
 
-    at-is : (i : ℕ) → i < length group → (d : Spec) → getD group i d ≡ specMeant specs (getD kept i blank)
-    at-is i h d = ap (λ (l : List Spec). getD l i d) (sym means) ∙ map-at (specMeant specs) kept i blank d (omega (arith, map-long (specMeant specs) kept, ap length means))
-
-    pub table-read : (table negatives : List ℕ) (k : ℕ) → NotedAll specs (take (g .count) (g .specs)) table negatives k → (x : Noted) → x .refusal ≡ 0 → x .count ≡ g .count → x .negatives ≡ k → TableRead specs table negatives x (readSpecs op specs)
-    table-read table negatives k a x e f n =
-        subst (TableRead specs table negatives x) (sym (passed .answer))
-        (record {
-          refusal-is = e;
-          count-is = f ∙ passed .is .count-is;
-          few = omega (arith, f, count-few);
-          specs-short = specs-small;
-          stand = λ i h d. rw (at-is i h d) (a .stand i (omega (arith, map-long (specMeant specs) kept, ap length means)));
-          short = λ i h d t q. let w = group-texts op specs group (passed .answer) (getD group i d) (member group i d h) in spec-short op (w .0) (getD group i d) (w .1) .0 t q;
-          exclude = rw (n, ← means) (a .exclude);
-        })
+  pub group-noted : TableIs specs table negatives n k (groupMeant specs (take n records))
+  group-noted =
+      record {
+        count-is = group-long;
+        few = omega (arith, r .notable .few, r .long);
+        specs-short = r .notable .specs-short;
+        stand = λ i h d. let l : i < length those = omega (arith, group-long, r .long) in rw (group-at specs those i l d) (a .stand i l);
+        short = λ i h d t e. let l : i < length those = omega (arith, group-long, r .long) in r .short i (omega (arith, group-long)) t (sym (ap (λ (s : Spec). s .source) (group-at specs those i l d)) ∙ e);
+        exclude = a .exclude;
+      }

@@ -3,18 +3,17 @@ use Prim.Native.Nat.{ℕ, _≤_, _<_}
 use mathlib.Core.Path.{_≡_}
 use mathlib.Core.Bool.{true, false}
 use mathlib.Core.List.{List}
-use lib.ListN.{length, getD}
+use lib.ListN.{length}
 use Rattle.meaning.specs.Bytes.{Text}
 use Rattle.meaning.specs.Limits.{listBytes, specCount}
 use Rattle.meaning.specs.Spec.{Spec, isNegative}
-use Rattle.parse.specs.declared.types.RefSpec.{RefSpec}
-use Rattle.parse.specs.declared.types.Mode.the-variants.{Normal}
-use Rattle.parse.specs.declared.types.Side.the-variants.{Absent}
-use Rattle.parse.specs.Places.{specMeant, SidesWithin}
+use Rattle.parse.specs.Places.{SidesWithin}
 use Rattle.matcher.specs.declared.types.Matcher.{Matcher}
 use Rattle.matcher.specs.Matching.{Matches}
 use Rattle.matchers.specs.Numbers.{matcherAt, noMatcher}
-use Rattle.list.specs.Group.{groupMeant}
+use Rattle.list.specs.declared.record.SpecRecord.{SpecRecord}
+use Rattle.list.specs.Table.{specFrom, specAt}
+use Rattle.list.specs.Group.{recordMeant, groupMeant}
 use Rattle.exclude.specs.Negatives.{Negatives}
 
 -- m stands for the spec s: it is the matcher of s, or that of a spec without rows where s is negative
@@ -28,17 +27,13 @@ pub record NotedAt (specs : Text) (s : Spec) (before : List ℕ) (i : ℕ) (afte
   pub kept : (j : ℕ) → (j ≡ i → ⊥) → matcherAt after j ≡ matcherAt before j
   pub there : Stands specs s (matcherAt after i)
 
--- the record that a table is read as outside its bounds
-abbrev pub blank : RefSpec
-blank = record { mode = Normal; src = Absent; dst = Absent }
-
 -- records that can be noted
-pub record Notable (specs : Text) (records : List RefSpec) : Type 0 where
+pub record Notable (specs : Text) (records : List SpecRecord) : Type 0 where
   pub specs-short : length specs ≤ listBytes
   pub few : length records ≤ specCount
-  pub sides : (i : ℕ) → i < length records → SidesWithin (length specs) (getD records i blank)
+  pub sides : (i : ℕ) → i < length records → SidesWithin (length specs) (specFrom (specAt records i))
 
 -- the specs of a group were noted in two tables
-pub record NotedAll (specs : Text) (records : List RefSpec) (table negatives : List ℕ) (count : ℕ) : Type 0 where
-  pub stand : (i : ℕ) → i < length records → Stands specs (specMeant specs (getD records i blank)) (matcherAt table i)
+pub record NotedAll (specs : Text) (records : List SpecRecord) (table negatives : List ℕ) (count : ℕ) : Type 0 where
+  pub stand : (i : ℕ) → i < length records → Stands specs (recordMeant specs (specAt records i)) (matcherAt table i)
   pub exclude : Negatives specs (groupMeant specs records) negatives count

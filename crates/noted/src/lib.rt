@@ -1,16 +1,17 @@
 // The specs of a group noted once for all names: their matchers as flat numbers, and the negatives apart.
 ghost use mathlib.Core.Path.{_≡_};
-ghost use Prim.Native.Nat.{_≤_, _<_};
+ghost use Prim.Native.Nat.{_+_, _*_, _≤_};
 ghost use lib.ListN.{length, take};
 ghost use Rattle.meaning.specs.Limits.{listBytes};
 ghost use Rattle.parse.specs.Places.{specMeant, SidesWithin};
 ghost use Rattle.matcher.specs.Matching.{MatcherWithin};
+ghost use Rattle.list.specs.Table.{specFrom};
+ghost use Rattle.list.specs.Group.{recordMeant};
 ghost use Rattle.exclude.specs.Making.{Added};
 ghost use Rattle.noted.specs.Standing.{Stands, NotedAt, Notable, NotedAll};
-
-pub mod read;
-
 use exclude::put_if_negative;
+use list::record::SpecRecord;
+use list::record::spec_from;
 use list::table::spec_at;
 use matcher::matcher;
 use matcher::types::Matcher;
@@ -34,29 +35,35 @@ fn matcher_for(specs: &[u8], r: RefSpec) -> Matcher
 // Notes a spec as number i, and among the k negatives if it is one; how many negatives there are then.
 pub fn note(
     specs: &[u8],
-    r: RefSpec,
+    q: SpecRecord,
     i: usize,
     table: &mut [u16],
     negatives: &mut [u16],
     k: usize,
 ) -> usize
-    requires { ⌜ SidesWithin (length (now specs)) r × (length (now specs) ≤ listBytes) × (i < 256) × (k < 256) × (2560 ≤ length (now table)) × (1024 ≤ length (now negatives)) ⌝ }
-    ensures { λ n. ⌜ NotedAt (now (specs .entry)) (specMeant (now (specs .entry)) r) (now (table .entry)) i (now (table .exit)) × Added (now (specs .entry)) (specMeant (now (specs .entry)) r) (now (negatives .entry)) k (now (negatives .exit)) n ⌝ }
+    requires { ⌜ SidesWithin (length (now specs)) (specFrom q) × (length (now specs) ≤ listBytes) × (10 * i + 10 ≤ length (now table)) × (4 * k + 4 ≤ length (now negatives)) ⌝ }
+    ensures { λ n. ⌜ NotedAt (now (specs .entry)) (recordMeant (now (specs .entry)) q) (now (table .entry)) i (now (table .exit)) × Added (now (specs .entry)) (recordMeant (now (specs .entry)) q) (now (negatives .entry)) k (now (negatives .exit)) n ⌝ }
 {
+    let r = spec_from(q);
     put_matcher(table, i, matcher_for(specs, r));
     put_if_negative(specs, r, k, negatives)
 }
 
 // Notes the specs of a table of records that is lent, each handed to `note`; how many negatives there are.
-fn note_specs(specs: &[u8], records: &[RefSpec], table: &mut [u16], negatives: &mut [u16]) -> usize
-    requires { ⌜ Notable (now specs) (now records) × (2560 ≤ length (now table)) × (1024 ≤ length (now negatives)) ⌝ }
+fn note_specs(
+    specs: &[u8],
+    records: &[SpecRecord],
+    table: &mut [u16],
+    negatives: &mut [u16],
+) -> usize
+    requires { ⌜ Notable (now specs) (now records) × (10 * length (now records) ≤ length (now table)) × (4 * length (now records) ≤ length (now negatives)) ⌝ }
     ensures { λ k. ⌜ NotedAll (now (specs .entry)) (now (records .entry)) (now (table .exit)) (now (negatives .exit)) k ⌝ }
 {
     let mut count = 0;
     let mut i = 0;
     while i < records.len() {
-        let r = spec_at(records, i);
-        count = note(specs, r, i, table, negatives, count);
+        let q = spec_at(records, i);
+        count = note(specs, q, i, table, negatives, count);
         i += 1;
     }
     count
@@ -65,12 +72,12 @@ fn note_specs(specs: &[u8], records: &[RefSpec], table: &mut [u16], negatives: &
 // Notes the specs of a group, the first n records of a table, which are lent; how many negatives there are.
 pub fn note_group(
     specs: &[u8],
-    records: [RefSpec; 256],
+    records: [SpecRecord; 256],
     n: usize,
     table: &mut [u16],
     negatives: &mut [u16],
 ) -> usize
-    requires { ⌜ (n ≤ 256) × Notable (now specs) (take n records) × (2560 ≤ length (now table)) × (1024 ≤ length (now negatives)) ⌝ }
+    requires { ⌜ (n ≤ 256) × Notable (now specs) (take n records) × (10 * n ≤ length (now table)) × (4 * n ≤ length (now negatives)) ⌝ }
     ensures { λ k. ⌜ NotedAll (now (specs .entry)) (take n records) (now (table .exit)) (now (negatives .exit)) k ⌝ }
 {
     note_specs(specs, &records[..n], table, negatives)

@@ -23,7 +23,8 @@ use Rattle.write.specs.Yields.{yieldPlace, yieldMeant, YieldWithin}
 use Rattle.refspec.proofs.Fronts.{remote-within}
 use Rattle.write.proofs.Lists.{expand-is, yield-within}
 use Rattle.list.specs.Group.{groupMeant, AllWithin}
-use Rattle.list.specs.Table.{specAt}
+use Rattle.list.specs.declared.record.SpecRecord.{SpecRecord}
+use Rattle.list.specs.Table.{specFrom, specAt}
 use Rattle.list.proofs.Groups.{table-next, table-within, table-end}
 use Rattle.prefixes.specs.declared.entry.Entry.{Entry}
 use Rattle.prefixes.specs.Distinct.{addAll}
@@ -174,7 +175,7 @@ spec-few op specs r w =
 -- ---- a group
 
 -- what the specs yield is entered as far as number i, and the others make the whole
-pub record Collecting (op : ℕ) (specs : Text) (group : List RefSpec) (n : ℕ) (table₀ : List ℕ) (scratch₀ : Text) (table : List ℕ) (scratch : Text) (c i : ℕ) : Type 0 where
+pub record Collecting (op : ℕ) (specs : Text) (group : List SpecRecord) (n : ℕ) (table₀ : List ℕ) (scratch₀ : Text) (table : List ℕ) (scratch : Text) (c i : ℕ) : Type 0 where
   pub turn : i ≤ n
   pub few : c ≤ 6 * i
   pub entries : Entries (length specs) table c
@@ -183,34 +184,34 @@ pub record Collecting (op : ℕ) (specs : Text) (group : List RefSpec) (n : ℕ)
   pub lent : length scratch ≡ length scratch₀
 
 -- nothing at the start
-pub collecting-starts : (op : ℕ) (specs : Text) (group : List RefSpec) (n : ℕ) (table : List ℕ) (scratch : Text) → Collecting op specs group n table scratch table scratch 0 0
+pub collecting-starts : (op : ℕ) (specs : Text) (group : List SpecRecord) (n : ℕ) (table : List ℕ) (scratch : Text) → Collecting op specs group n table scratch table scratch 0 0
 unfolding groupTexts
 collecting-starts op specs group n table scratch =
     record { turn = omega arith; few = omega arith; entries = record { room = omega arith; within = λ i l. absurd (omega arith) }; whole = refl; kept = refl; lent = refl }
 
-module _ (op : ℕ) (specs : Text) (group : List RefSpec) (n : ℕ) (table₀ : List ℕ) (scratch₀ : Text) (table : List ℕ) (scratch : Text) (c i : ℕ) (m : Collecting op specs group n table₀ scratch₀ table scratch c i) where
+module _ (op : ℕ) (specs : Text) (group : List SpecRecord) (n : ℕ) (table₀ : List ℕ) (scratch₀ : Text) (table : List ℕ) (scratch : Text) (c i : ℕ) (m : Collecting op specs group n table₀ scratch₀ table scratch c i) where
   module _ (below : i < n) (few-specs : n ≤ specCount) where
     -- the table has room for six more
     pub collecting-room : 18 * specCount ≤ length table₀ → 3 * c + 18 ≤ length table
     collecting-room h = omega (arith, m .few, m .kept)
 
-    module _ (size : length group ≡ 256) (r : RefSpec) (is : r ≡ specAt (take n group) i) (in-list : AllWithin (length specs) (take n group)) where
+    module _ (size : length group ≡ 256) (q : SpecRecord) (is : q ≡ specAt (take n group) i) (r : RefSpec) (tells : r ≡ specFrom q) (in-list : AllWithin (length specs) (take n group)) where
       -- the next record stands within the list
       pub collecting-within : SidesWithin (length specs) r
-      collecting-within = table-within group n i r is size few-specs below (length specs) in-list
+      collecting-within = rw tells (table-within group n i q is size few-specs below (length specs) in-list)
 
       -- what it yields is entered
       pub collecting-more : (next : List ℕ) (lent : Text) (k : ℕ) → Entered specs (expandPrefixes op (specMeant specs r)) table c next k → length next ≡ length table → length lent ≡ length scratch → Collecting op specs group n table₀ scratch₀ next lent k (i + 1)
-      collecting-more next lent k x p q = record {
+      collecting-more next lent k x p l = record {
         turn = omega arith;
         few = omega (arith, m .few, x .most, spec-few op specs r collecting-within);
         entries = x .entries;
         whole =
             rw (x .holds, add-one i)
             (sym (all-append (tableTexts specs table c) (expandPrefixes op (specMeant specs r)) (each (groupMeant specs (drop (suc i) (take n group))) (expandPrefixes op)))
-            ∙ rw (table-next group n i r is size few-specs below specs) at (m .whole));
+            ∙ rw (table-next group n i q is size few-specs below specs, ← tells) at (m .whole));
         kept = p ∙ m .kept;
-        lent = q ∙ m .lent;
+        lent = l ∙ m .lent;
       }
 
   -- after the last all is

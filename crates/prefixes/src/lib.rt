@@ -20,6 +20,8 @@ mod table;
 use entry::Entry;
 use entry::side_entry;
 use frames::FRAMES;
+use list::record::SpecRecord;
+use list::record::spec_from;
 use list::specs::read_specs;
 use list::table::spec_of;
 use parse::types::RefSpec;
@@ -89,7 +91,7 @@ fn add_spec(
 fn collect(
     op: u64,
     specs: &[u8],
-    group: [RefSpec; 256],
+    group: [SpecRecord; 256],
     n: usize,
     table: &mut [usize],
     scratch: &mut [u8],
@@ -100,7 +102,8 @@ fn collect(
     let mut count = 0;
     let mut i = 0;
     while i < n {
-        let r = spec_of(group, n, i);
+        let q = spec_of(group, n, i);
+        let r = spec_from(q);
         count = add_spec(op, specs, r, table, count, scratch);
         i += 1;
     }
@@ -129,7 +132,7 @@ fn list_table(specs: &[u8], table: &[usize], count: usize, out: &mut [u8]) -> Wr
 }
 
 // The prefix list of the first n specs of a table.
-fn list_group(op: u64, specs: &[u8], group: [RefSpec; 256], n: usize, out: &mut [u8]) -> Written
+fn list_group(op: u64, specs: &[u8], group: [SpecRecord; 256], n: usize, out: &mut [u8]) -> Written
     requires { ⌜ (n ≤ specCount) × AllWithin (length (now specs)) (take n group) × (length (now specs) ≤ listBytes) ⌝ }
     ensures { λ w. ⌜ MeetsOne (accepted (some (recordBytes (groupTexts op (groupMeant (now (specs .entry)) (take n group)))) ∷ [])) (now (out .entry)) (now (out .exit)) (w .refusal) (w .record) (w .length) ⌝ }
 {

@@ -18,7 +18,7 @@ negative-of-requires : tie.Need-negative-of-requires
 negative-of-requires c κs = search needs
 
 put-negative-requires : tie.Need-put-negative-requires
-put-negative-requires c κs = (search needs, search needs, search negative-small)
+put-negative-requires c κs = (search needs, search negative-small)
 
 same-length : tie.Need-same-length
 same-length c = search needs

@@ -22,13 +22,13 @@ enum-known-n : tie.Need-enum-known-n
 enum-known-n c = search needs
 
 put-numbers-requires-3 : tie.Need-put-numbers-requires-3
-put-numbers-requires-3 c κs = (search needs, search needs, search needs, search literal-start, search literal-size, search needs)
+put-numbers-requires-3 c κs = (search needs, search needs, search literal-start, search literal-size, search needs)
 
 enum-known-n-2 : tie.Need-enum-known-n-2
 enum-known-n-2 c = search needs
 
 put-numbers-requires-4 : tie.Need-put-numbers-requires-4
-put-numbers-requires-4 c κs = (search needs, search needs, search needs, search glob-start, search glob-size, search glob-star)
+put-numbers-requires-4 c κs = (search needs, search needs, search glob-start, search glob-size, search glob-star)
 
 same-length : tie.Need-same-length
 same-length c = search needs

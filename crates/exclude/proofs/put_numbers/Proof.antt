@@ -1,7 +1,4 @@
 -- `exclude::put_numbers` meets its contract: the four numbers stand there, and those before them stay.
-use native.Mathlib.Omega.{arith}
-use Prim.Native.Nat.{_+_, _*_, _≤_}
-use lib.ListN.{length}
 use mathlib.Core.Path.{refl}
 use Rattle.exclude.proofs.Tables.{second-room, third-room, fourth-room, stored}
 use borrow.Author.Needs.{needs}
@@ -30,7 +27,7 @@ mul-out-2 : tie.Need-mul-out-2
 mul-out-2 c = search needs
 
 slice-write-out-2 : tie.Need-slice-write-out-2
-slice-write-out-2 c = let h : 4 * c .args .k + 4 ≤ length (c .args .out .now) = omega arith in search second-room
+slice-write-out-2 c = search second-room
 
 cast-out-3 : tie.Need-cast-out-3
 cast-out-3 c = search needs
@@ -42,7 +39,7 @@ mul-out-3 : tie.Need-mul-out-3
 mul-out-3 c = search needs
 
 slice-write-out-3 : tie.Need-slice-write-out-3
-slice-write-out-3 c = let h : 4 * c .args .k + 4 ≤ length (c .args .out .now) = omega arith in search third-room
+slice-write-out-3 c = search third-room
 
 cast-out-4 : tie.Need-cast-out-4
 cast-out-4 c = search needs
@@ -54,7 +51,7 @@ mul-out-4 : tie.Need-mul-out-4
 mul-out-4 c = search needs
 
 slice-write-out-4 : tie.Need-slice-write-out-4
-slice-write-out-4 c = let h : 4 * c .args .k + 4 ≤ length (c .args .out .now) = omega arith in search fourth-room
+slice-write-out-4 c = search fourth-room
 
 add-result : tie.Need-add-result
 add-result c = search needs
@@ -63,7 +60,7 @@ same-length : tie.Need-same-length
 same-length c = search needs
 
 returns : tie.Need-returns
-returns c = let h : 4 * c .args .k + 4 ≤ length (c .args .out .now) = omega arith in (refl, search stored)
+returns c = (refl, search stored)
 
 pub put-numbers-spec : {M : Type 1} → statement M
 put-numbers-spec =

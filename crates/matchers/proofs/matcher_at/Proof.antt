@@ -4,9 +4,9 @@ use borrow.Author.Needs.{needs}
 use Rattle.matchers.proofs.matcher_at.Statement.{statement}
 use Rattle.matchers.proofs.matcher_at.Tie as tie
 use Rattle.matchers.proofs.needle_from.Reads as needle-from-reads
-use Rattle.matchers.proofs.side_from.Reads as side-from-reads
+use Rattle.sides.proofs.side_from.Reads as side-from-reads
 use Rattle.matchers.proofs.target_from.Reads as target-from-reads
-use Rattle.matchers.proofs.wide.Reads as wide-reads
+use Rattle.sides.proofs.wide.Reads as wide-reads
 
 mul-i : tie.Need-mul-i
 mul-i c = search needs

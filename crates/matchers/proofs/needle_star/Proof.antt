@@ -3,7 +3,7 @@ use Rattle.matchers.proofs.Told.{needle-star-small}
 use borrow.Author.Needs.{needs}
 use Rattle.matchers.proofs.needle_star.Statement.{statement}
 use Rattle.matchers.proofs.needle_star.Tie as tie
-use Rattle.matchers.proofs.narrow.Reads as narrow-reads
+use Rattle.sides.proofs.narrow.Reads as narrow-reads
 
 enum-told : tie.Need-enum-told
 enum-told c = search needs

@@ -4,9 +4,9 @@ use borrow.Author.Needs.{needs}
 use Rattle.matchers.proofs.put_destination.Statement.{statement}
 use Rattle.matchers.proofs.put_destination.Tie as tie
 use Rattle.matchers.proofs.put_five.Reads as put-five-reads
-use Rattle.matchers.proofs.side_at.Reads as side-at-reads
-use Rattle.matchers.proofs.side_kind.Reads as side-kind-reads
-use Rattle.matchers.proofs.side_len.Reads as side-len-reads
+use Rattle.sides.proofs.side_at.Reads as side-at-reads
+use Rattle.sides.proofs.side_kind.Reads as side-kind-reads
+use Rattle.sides.proofs.side_len.Reads as side-len-reads
 use Rattle.matchers.proofs.target_kind.Reads as target-kind-reads
 use Rattle.matchers.proofs.target_number.Reads as target-number-reads
 

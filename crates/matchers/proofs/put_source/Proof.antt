@@ -6,9 +6,9 @@ use Rattle.matchers.proofs.put_source.Tie as tie
 use Rattle.matchers.proofs.needle_kind.Reads as needle-kind-reads
 use Rattle.matchers.proofs.needle_star.Reads as needle-star-reads
 use Rattle.matchers.proofs.put_five.Reads as put-five-reads
-use Rattle.matchers.proofs.side_at.Reads as side-at-reads
-use Rattle.matchers.proofs.side_kind.Reads as side-kind-reads
-use Rattle.matchers.proofs.side_len.Reads as side-len-reads
+use Rattle.sides.proofs.side_at.Reads as side-at-reads
+use Rattle.sides.proofs.side_kind.Reads as side-kind-reads
+use Rattle.sides.proofs.side_len.Reads as side-len-reads
 
 side-kind-requires : tie.Need-side-kind-requires
 side-kind-requires c κs = search needs

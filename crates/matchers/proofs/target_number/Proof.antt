@@ -4,7 +4,7 @@ use borrow.Author.Needs.{needs}
 use Rattle.matchers.proofs.target_number.Statement.{statement}
 use Rattle.matchers.proofs.target_number.Tie as tie
 use Rattle.matchers.proofs.lead_kind.Reads as lead-kind-reads
-use Rattle.matchers.proofs.narrow.Reads as narrow-reads
+use Rattle.sides.proofs.narrow.Reads as narrow-reads
 
 enum-told : tie.Need-enum-told
 enum-told c = search needs

@@ -49,9 +49,9 @@ use denote.Triple.Table.{entered, cited}
 use denote.Triple.Walked.{says, needs, Stays, stay-none, stay-none-slice, gave-slice, walkOf, goes-none, goes-none-slice, goes-gave-slice, Walks, ends-at, walked, walk-meets}
 use denote.Triple.Clauses.{Lasts, ensured, lasts}
 use denote.Exit.{yes}
-use Rattle.parse.specs.declared.types.RefSpec.{RefSpec}
-use Rattle.parse.proofs.types.RefSpec as T
-use Rattle.parse.proofs.types.RefSpec.Laws as T′
+use Rattle.list.specs.declared.record.SpecRecord.{SpecRecord}
+use Rattle.list.proofs.record.SpecRecord as T
+use Rattle.list.proofs.record.SpecRecord.Laws as T′
 use Rattle.list.proofs.TableParts.{past, cut, mend}
 use Rattle.noted.specs.Standing.{Notable, NotedAll}
 use Rattle.noted.proofs.note_specs as callee
@@ -78,15 +78,15 @@ module _ {M : Type 1} (𝓤 : URA M) (H : Heap 𝓤) (A : Atoms 𝓤) (mem : Mem
   abbrev Callee : Contract 𝓤
   Callee = tripleOf 𝓤 H A callee.signature (callee.spec 𝓤 H A mem run)
 
-module _ {M : Type 1} (𝓤 : URA M) (H : Heap 𝓤) (A : Atoms 𝓤) (W : Given 𝓤 H A) (mem : Memory → SProp 𝓤) (run : Routine → Fun 𝓤) (κ₀ κ₁ κ₂ : Lft) (q₀ q₁ q₂ : Share) (s : RefT (List ℕ)) (xs : List RefSpec) (v : Val) (n : ℕ) (table negatives : RefT (List ℕ)) where
+module _ {M : Type 1} (𝓤 : URA M) (H : Heap 𝓤) (A : Atoms 𝓤) (W : Given 𝓤 H A) (mem : Memory → SProp 𝓤) (run : Routine → Fun 𝓤) (κ₀ κ₁ κ₂ : Lft) (q₀ q₁ q₂ : Share) (s : RefT (List ℕ)) (xs : List SpecRecord) (v : Val) (n : ℕ) (table negatives : RefT (List ℕ)) where
   abbrev κs : Lfts 3
   κs = (κ₀, (κ₁, (κ₂, tt)))
 
   -- the records that are lent
-  abbrev ys : List RefSpec
+  abbrev ys : List SpecRecord
   ys = take n xs
 
-  abbrev args : RefT (List ℕ) × (List RefSpec × (ℕ × (RefT (List ℕ) × (RefT (List ℕ) × Unit {0}))))
+  abbrev args : RefT (List ℕ) × (List SpecRecord × (ℕ × (RefT (List ℕ) × (RefT (List ℕ) × Unit {0}))))
   args = (s, (xs, (n, (table, (negatives, tt)))))
 
   abbrev v₀ : Val
@@ -119,7 +119,7 @@ module _ {M : Type 1} (𝓤 : URA M) (H : Heap 𝓤) (A : Atoms 𝓤) (W : Given
   OwnN = MutSlice (named 2) κ₂ u16 .own negatives (v₂ ∷ [])
 
   -- the slice that is lent, of the slot l
-  abbrev lent : ℕ → GName → RefT (List RefSpec)
+  abbrev lent : ℕ → GName → RefT (List SpecRecord)
   lent l γ = record { ptr = (l, 0); name = γ; now = ys }
 
   abbrev sv : ℕ → Val
@@ -130,7 +130,7 @@ module _ {M : Type 1} (𝓤 : URA M) (H : Heap 𝓤) (A : Atoms 𝓤) (W : Given
     abbrev lfts : Lfts 4
     lfts = (κ₀, (α ∷ [], (κ₁, (κ₂, tt))))
 
-    abbrev passed : RefT (List ℕ) × (RefT (List RefSpec) × (RefT (List ℕ) × (RefT (List ℕ) × Unit {0})))
+    abbrev passed : RefT (List ℕ) × (RefT (List SpecRecord) × (RefT (List ℕ) × (RefT (List ℕ) × Unit {0})))
     passed = (s, (lent l γ, (table, (negatives, tt))))
 
     abbrev to : Callee 𝓤 H A mem run .Ghost
@@ -139,7 +139,7 @@ module _ {M : Type 1} (𝓤 : URA M) (H : Heap 𝓤) (A : Atoms 𝓤) (W : Given
     abbrev Lent : List (Item 𝓤)
     Lent = ‵ OwnS ∷ ‵ (ShrSlice (named 1) (α ∷ []) R .own (lent l γ) (sv l ∷ [])) ∷ ‵ OwnT ∷ ‵ OwnN ∷ ‵ (flft κ₀ q₀) ∷ ‵ (flft (α ∷ []) fullShare) ∷ ‵ (flft κ₁ q₁) ∷ ‵ (flft κ₂ q₂) ∷ []
 
-    asks : Notable (s .now) ys × (2560 ≤ length (table .now)) × (1024 ≤ length (negatives .now)) → ent 𝓤 (⋆ 𝓤 H A Lent) (Callee 𝓤 H A mem run .pre to)
+    asks : Notable (s .now) ys × (10 * length ys ≤ length (table .now)) × (4 * length ys ≤ length (negatives .now)) → ent 𝓤 (⋆ 𝓤 H A Lent) (Callee 𝓤 H A mem run .pre to)
     asks h =
         qed W Lent ∵ says ! h $
         nothing ! $ move ! (4 ∷ 0 ∷ []) $ fjoin ! $ move ! (3 ∷ 0 ∷ []) $ fjoin ! $ move ! (2 ∷ 0 ∷ []) $ fjoin ! $ move ! (1 ∷ 0 ∷ []) $ fjoin ! $
@@ -158,13 +158,13 @@ module _ {M : Type 1} (𝓤 : URA M) (H : Heap 𝓤) (A : Atoms 𝓤) (W : Given
 
   module _ (C : Calls 𝓤 H) (Λ : Loops 𝓤 H) (fm : FmC 𝓤 H (W .laws) C) (known : Triple 𝓤 (C #noted·note-specs) (Callee 𝓤 H A mem run)) where
     walk : Is (ShrSlice (named 0) κ₀ u8) s (v₀ ∷ []) → Holds (hasTy (lone (B .mir)) v) × WT v → length xs ≡ 256 → n < 2 ^ 64 → Is (MutSlice (named 1) κ₁ u16) table (v₁ ∷ []) → Is (MutSlice (named 2) κ₂ u16) negatives (v₂ ∷ [])
-        → n ≤ 256 → Notable (s .now) ys → 2560 ≤ length (table .now) → 1024 ≤ length (negatives .now) → ent 𝓤 (onEntry 𝓤 H A self.signature κs (q₀, (q₁, (q₂, tt))) args vs) (WpFn 𝓤 H C Λ code.function (v₀ ∷ v ∷ vint w64 n ∷ v₁ ∷ v₂ ∷ []) Post)
+        → n ≤ 256 → Notable (s .now) ys → 10 * n ≤ length (table .now) → 4 * n ≤ length (negatives .now) → ent 𝓤 (onEntry 𝓤 H A self.signature κs (q₀, (q₁, (q₂, tt))) args vs) (WpFn 𝓤 H C Λ code.function (v₀ ∷ v ∷ vint w64 n ∷ v₁ ∷ v₂ ∷ []) Post)
     unfolding partOf
     walk p₀ wt e gn p₁ p₂ few ready wide₁ wide₂ =
         let fits-in : n ≤ length xs = omega arith in
         let e₂ : length ys ≡ n = length-take-le n xs fits-in in
         let room0 : length ys < 2 ^ 64 = omega arith in
-        let room1 : length ys * 56 < 2 ^ 63 = omega arith in
+        let room1 : length ys * 14 < 2 ^ 63 = omega arith in
         qed W ((‵ (flft κ₀ q₀) ⊛ ‵ (flft κ₁ q₁) ⊛ ‵ (flft κ₂ q₂) ⊛ ‵ ftrue) ∷ ‵ (owns (ShrSlice (named 0) κ₀ u8 ∷ B ∷ usize ∷ MutSlice (named 1) κ₁ u16 ∷ MutSlice (named 2) κ₂ u16 ∷ []) args vs) ∷ []) ∵
         enter ! C Λ code.function (v₀ ∷ v ∷ vint w64 n ∷ v₁ ∷ v₂ ∷ []) _ $
         alloc1 ! (λ l₀. alloc1 ! (λ l₁. alloc1 ! (λ l₂. alloc1 ! (λ l₃. alloc1 ! (λ l₄. alloc1 ! (λ l₅. alloc1 ! (λ l₆. alloc1 ! (λ l₇. alloc1 ! (λ l₈. alloc1 ! (λ l₉. alloc1 ! (λ l₁₀. alloc1 ! (λ l₁₁. alloc1 ! (λ l₁₂. alloc0 ! $ params1 ! $
@@ -193,7 +193,7 @@ module _ {M : Type 1} (𝓤 : URA M) (H : Heap 𝓤) (A : Atoms 𝓤) (W : Given
         move ! (5 ∷ []) $ fsplit ! $ drop ! $ fsplit ! $ move ! (1 ∷ []) $ fsplit ! $ move ! (34 ∷ []) $ split ! $ move ! (1 ∷ []) $ split ! $ move ! (1 ∷ []) $ split ! $
         -- [κ₂'s token; true; κ₁'s; κ₀'s; OwnN; true; OwnT; the slice; `lent`; α's token; the others; OwnB; OwnS; _12; …]
         move ! (12 ∷ []) $ use1 W (‵ OwnS ⊛ ‵ OwnS) (shr-slice-copy 𝓤 H A W (named 0) κ₀ u8 .twice s (v₀ ∷ [])) $ split ! $
-        move ! (0 ∷ 9 ∷ 8 ∷ 6 ∷ 5 ∷ 11 ∷ 4 ∷ 2 ∷ []) $ group ! 8 $ use1 W (raw (Callee 𝓤 H A mem run .pre (to α l₆ γ))) (asks α l₆ γ (ready, wide₁, wide₂)) $
+        move ! (0 ∷ 9 ∷ 8 ∷ 6 ∷ 5 ∷ 11 ∷ 4 ∷ 2 ∷ []) $ group ! 8 $ use1 W (raw (Callee 𝓤 H A mem run .pre (to α l₆ γ))) (asks α l₆ γ (ready, omega (arith, e₂), omega (arith, e₂))) $
         -- [what `note_specs` asks; OwnS; true; true; `lent`; the others; OwnB; _12; …; (_6's right); _5; …]
         calls-at ! fm (Callee 𝓤 H A mem run) known (to α l₆ γ) (and-then ! (load ! (from ! (stop !)) (look ! 28 refl)) (and-then ! (load ! (from ! (stop !)) (look ! 15 refl)) (and-then ! (load ! (from ! (stop !)) (look ! 11 refl)) (and-then ! (load ! (from ! (stop !)) (look ! 7 refl)) (no-more !))))) (λ u.
         use1 W (later (some (λ (k : ℕ). ((‵ (flft κ₀ q₀) ⊛ ‵ (flft (α ∷ []) fullShare) ⊛ ‵ (flft κ₁ q₁) ⊛ ‵ (flft κ₂ q₂) ⊛ ‵ ftrue) ⊛ ‵ (usize .own k (u ∷ []))) ⊛ raw (ensured 𝓤 H A callee.ended (callee.clauses 𝓤 H A mem run) (lfts α l₆ γ) (passed α l₆ γ) tt k)))) (id⊢ 𝓤 _) $ await ! tt $ pick ! (λ k.

@@ -1,7 +1,7 @@
 -- `note_specs` meets its contract: a walk of its MIR, by hand. Each turn takes a record by `spec_at` and hands it to `note`, to which the two tables
 -- are lent again for lifetimes that the turn makes; they come back with one spec more (`Stood`). Assumes nothing.
 use mathlib.Core.Path.{_≡_, refl, ap, _∙_}
-use Prim.Native.Nat.{ℕ, _+_, _-_, _≤_, _<_, _^_}
+use Prim.Native.Nat.{ℕ, _+_, _-_, _*_, _≤_, _<_, _^_}
 use native.Mathlib.Omega.{arith}
 use mathlib.Core.Bool.{Bool, true, false}
 use mathlib.Core.List.{List, [], _∷_}
@@ -47,12 +47,13 @@ use denote.Triple.Clauses.{ensured, lasts}
 use denote.Exit.{yes}
 use borrow.Author.Tests.{ltb-true, ltb-false}
 use Rattle.meaning.specs.Limits.{listBytes}
-use Rattle.parse.specs.declared.types.RefSpec.{RefSpec}
-use Rattle.parse.specs.Places.{specMeant, SidesWithin}
-use Rattle.parse.proofs.types.RefSpec as T
-use Rattle.parse.proofs.types.RefSpec.Laws as T′
+use Rattle.parse.specs.Places.{SidesWithin}
 use Rattle.exclude.specs.Making.{Added}
-use Rattle.list.specs.Table.{specAt}
+use Rattle.list.specs.declared.record.SpecRecord.{SpecRecord}
+use Rattle.list.specs.Table.{specFrom, specAt}
+use Rattle.list.specs.Group.{recordMeant}
+use Rattle.list.proofs.record.SpecRecord as T
+use Rattle.list.proofs.record.SpecRecord.Laws as T′
 use Rattle.list.proofs.table.spec_at as spec-at
 use Rattle.list.proofs.table.spec_at.Symbol as spec-at-def
 use Rattle.list.proofs.table.spec_at.Symbol.{name as #list·table·spec-at}
@@ -86,7 +87,7 @@ module _ {M : Type 1} (𝓤 : URA M) (H : Heap 𝓤) (A : Atoms 𝓤) (mem : Mem
   Note = tripleOf 𝓤 H A note.signature (note.spec 𝓤 H A mem run)
 
 -- where a turn begins: the lists in the two tables, and the two numbers
-record Turn (specs : List ℕ) (records : List RefSpec) (table₀ negatives₀ : List ℕ) : Type 0 where
+record Turn (specs : List ℕ) (records : List SpecRecord) (table₀ negatives₀ : List ℕ) : Type 0 where
   pub table : List ℕ
   pub negatives : List ℕ
   pub count : ℕ
@@ -100,7 +101,7 @@ word = tyInt w64
 abbrev half : Ty
 half = tyRef erased mut (tyInt w16)
 
-module _ {M : Type 1} (𝓤 : URA M) (H : Heap 𝓤) (A : Atoms 𝓤) (W : Given 𝓤 H A) (mem : Memory → SProp 𝓤) (run : Routine → Fun 𝓤) (κ₀ κ₁ κ₂ κ₃ : Lft) (q₀ q₁ q₂ q₃ : Share) (s : RefT (List ℕ)) (rs : RefT (List RefSpec))
+module _ {M : Type 1} (𝓤 : URA M) (H : Heap 𝓤) (A : Atoms 𝓤) (W : Given 𝓤 H A) (mem : Memory → SProp 𝓤) (run : Routine → Fun 𝓤) (κ₀ κ₁ κ₂ κ₃ : Lft) (q₀ q₁ q₂ q₃ : Share) (s : RefT (List ℕ)) (rs : RefT (List SpecRecord))
     (b₂ o₂ : ℕ) (γ₂ : GName) (ts₀ : List ℕ) (b₃ o₃ : ℕ) (γ₃ : GName) (ns₀ : List ℕ) where
   abbrev κs : Lfts 4
   κs = (κ₀, (κ₁, (κ₂, (κ₃, tt))))
@@ -112,7 +113,7 @@ module _ {M : Type 1} (𝓤 : URA M) (H : Heap 𝓤) (A : Atoms 𝓤) (W : Given
   abbrev negatives-of : GName → List ℕ → RefT (List ℕ)
   negatives-of δ ns = record { ptr = (b₃, o₃); name = δ; now = ns }
 
-  abbrev x : RefT (List ℕ) × (RefT (List RefSpec) × (RefT (List ℕ) × (RefT (List ℕ) × Unit {0})))
+  abbrev x : RefT (List ℕ) × (RefT (List SpecRecord) × (RefT (List ℕ) × (RefT (List ℕ) × Unit {0})))
   x = (s, (rs, (table-of γ₂ ts₀, (negatives-of γ₃ ns₀, tt))))
 
   -- the machine values, which stay as they are
@@ -167,7 +168,7 @@ module _ {M : Type 1} (𝓤 : URA M) (H : Heap 𝓤) (A : Atoms 𝓤) (W : Given
       qed W (‵ OwnR ∷ ‵ (flft κ₁ q₁) ∷ []) ∵ says ! h $
       nothing ! $ owned ! usize (Is usize) (uint-makes 𝓤 H A W w64) i (vint w64 i ∷ []) (refl, gi) $ fjoin ! $ move ! (1 ∷ 0 ∷ []) $ fjoin ! $ nothing ! $ move ! (2 ∷ 0 ∷ []) $ join ! $ done !
 
-  has-record : (i : ℕ) (r : RefSpec) → ent 𝓤 (ensured 𝓤 H A spec-at.ended (spec-at.clauses 𝓤 H A mem run) (κ₁, tt) (rs, (i, tt)) tt r) (fact 𝓤 (r ≡ specAt (rs .now) i))
+  has-record : (i : ℕ) (r : SpecRecord) → ent 𝓤 (ensured 𝓤 H A spec-at.ended (spec-at.clauses 𝓤 H A mem run) (κ₁, tt) (rs, (i, tt)) tt r) (fact 𝓤 (r ≡ specAt (rs .now) i))
   has-record i r = exE 𝓤 _ (λ ws. snd∗ 𝓤 (sem 𝓤 H A (lasts spec-at.ended (κ₁, tt) (rs, (i, tt)) ws)) (fact 𝓤 (r ≡ specAt (rs .now) i)))
 
   -- where a turn begins
@@ -178,7 +179,7 @@ module _ {M : Type 1} (𝓤 : URA M) (H : Heap 𝓤) (A : Atoms 𝓤) (W : Given
   abbrev lfts : ℕ → ℕ → Lfts 3
   lfts ν ξ = (κ₀, (ν ∷ [], (ξ ∷ [], tt)))
 
-  abbrev passed : At → RefSpec → GName → GName → RefT (List ℕ) × (RefSpec × (ℕ × (RefT (List ℕ) × (RefT (List ℕ) × (ℕ × Unit {0})))))
+  abbrev passed : At → SpecRecord → GName → GName → RefT (List ℕ) × (SpecRecord × (ℕ × (RefT (List ℕ) × (RefT (List ℕ) × (ℕ × Unit {0})))))
   passed t r δ ε = (s, (r, (t .i, (table-of δ (t .table), (negatives-of ε (t .negatives), (t .count, tt))))))
 
   -- what is bound of its parameters at exit, and the lists that it left
@@ -192,13 +193,13 @@ module _ {M : Type 1} (𝓤 : URA M) (H : Heap 𝓤) (A : Atoms 𝓤) (W : Given
   in-negatives zs = zs .1 .1 .1 .1 .0
 
   -- what it asks, and what it says of the number k and the lists ts and ns
-  abbrev Asked : At → RefSpec → Type 0
-  Asked t r = SidesWithin (length (s .now)) r × (length (s .now) ≤ listBytes) × (t .i < 256) × (t .count < 256) × (2560 ≤ length (t .table)) × (1024 ≤ length (t .negatives))
+  abbrev Asked : At → SpecRecord → Type 0
+  Asked t r = SidesWithin (length (s .now)) (specFrom r) × (length (s .now) ≤ listBytes) × (10 * t .i + 10 ≤ length (t .table)) × (4 * t .count + 4 ≤ length (t .negatives))
 
-  abbrev Told : At → RefSpec → ℕ → List ℕ → List ℕ → Type 0
-  Told t r k ts ns = NotedAt (s .now) (specMeant (s .now) r) (t .table) (t .i) ts × Added (s .now) (specMeant (s .now) r) (t .negatives) (t .count) ns k
+  abbrev Told : At → SpecRecord → ℕ → List ℕ → List ℕ → Type 0
+  Told t r k ts ns = NotedAt (s .now) (recordMeant (s .now) r) (t .table) (t .i) ts × Added (s .now) (recordMeant (s .now) r) (t .negatives) (t .count) ns k
 
-  module _ (t : At) (r : RefSpec) (u : Val) (ν ξ : ℕ) (δ ε : GName) where
+  module _ (t : At) (r : SpecRecord) (u : Val) (ν ξ : ℕ) (δ ε : GName) where
     abbrev to-note : Note 𝓤 H A mem run .Ghost
     to-note = ((lfts ν ξ, (q₀, (fullShare, (fullShare, tt))), tt, passed t r δ ε, (v₀ ∷ [], (u ∷ [], (vint w64 (t .i) ∷ [], (v₂ ∷ [], (v₃ ∷ [], (vint w64 (t .count) ∷ [], tt))))))), tt)
 
@@ -212,7 +213,7 @@ module _ {M : Type 1} (𝓤 : URA M) (H : Heap 𝓤) (A : Atoms 𝓤) (W : Given
         owned ! usize (Is usize) (uint-makes 𝓤 H A W w64) (t .i) (vint w64 (t .i) ∷ []) (refl, gi) $ fjoin ! $ move ! (2 ∷ 0 ∷ []) $ fjoin ! $ move ! (1 ∷ 0 ∷ []) $ fjoin ! $
         nothing ! $ move ! (4 ∷ 0 ∷ []) $ join ! $ move ! (3 ∷ 0 ∷ []) $ join ! $ move ! (2 ∷ 0 ∷ []) $ join ! $ done !
 
-  module _ (ready : Notable (s .now) (rs .now)) (wide₂ : 2560 ≤ length ts₀) (wide₃ : 1024 ≤ length ns₀) (p₀ : Is (ShrSlice (named 0) κ₀ u8) s (v₀ ∷ [])) (p₁ : Is (ShrSlice (named 1) κ₁ R) rs (v₁ ∷ [])) (g₂ : Room u16 (length ts₀)) (g₃ : Room u16 (length ns₀)) where
+  module _ (ready : Notable (s .now) (rs .now)) (wide₂ : 10 * length (rs .now) ≤ length ts₀) (wide₃ : 4 * length (rs .now) ≤ length ns₀) (p₀ : Is (ShrSlice (named 0) κ₀ u8) s (v₀ ∷ [])) (p₁ : Is (ShrSlice (named 1) κ₁ R) rs (v₁ ∷ [])) (g₂ : Room u16 (length ts₀)) (g₃ : Room u16 (length ns₀)) where
     -- the turn u comes after t
     abbrev Nearer : At → At → Type 0
     Nearer u t = length (rs .now) - u .i < length (rs .now) - t .i
@@ -288,7 +289,7 @@ module _ {M : Type 1} (𝓤 : URA M) (H : Heap 𝓤) (A : Atoms 𝓤) (W : Given
             use2 W (raw (SpecAt 𝓤 H A mem run .pre (to-spec-at (t .i)))) (asks-record (t .i) (place-fits t) within) $
             -- [what `spec_at` asks; OwnR; OwnS; OwnT; OwnN; the tokens of κ₀, κ₂ and κ₃; _13; …]
             calls-at ! fm (SpecAt 𝓤 H A mem run) known (to-spec-at (t .i)) (and-then ! (load ! (from ! (stop !)) (look ! 30 refl)) (and-then ! (load ! (from ! (stop !)) (look ! 22 refl)) (no-more !))) (λ u.
-            use1 W (later (some (λ (r : RefSpec). ((‵ (flft κ₁ q₁) ⊛ ‵ ftrue) ⊛ ‵ (R .own r (u ∷ []))) ⊛ raw (ensured 𝓤 H A spec-at.ended (spec-at.clauses 𝓤 H A mem run) (κ₁, tt) (rs, (t .i, tt)) tt r)))) (id⊢ 𝓤 _) $ await ! tt $ pick ! (λ r.
+            use1 W (later (some (λ (r : SpecRecord). ((‵ (flft κ₁ q₁) ⊛ ‵ ftrue) ⊛ ‵ (R .own r (u ∷ []))) ⊛ raw (ensured 𝓤 H A spec-at.ended (spec-at.clauses 𝓤 H A mem run) (κ₁, tt) (rs, (t .i, tt)) tt r)))) (id⊢ 𝓤 _) $ await ! tt $ pick ! (λ r.
             split ! $ move ! (1 ∷ []) $ use1 W (raw (fact 𝓤 (r ≡ specAt (rs .now) (t .i)))) (has-record (t .i) r) $ heard ! (r ≡ specAt (rs .now) (t .i)) (λ e. split ! $ move ! (1 ∷ []) $
             peeks ! R (Is R) (shows 𝓤 H A R) r (u ∷ []) (λ is.
             land ! (from ! (stop !)) (init ! 21 refl (LL.lawful T.the-type T′.the-laws 𝓤 H A W .typed r _ is .0)) $
@@ -343,17 +344,15 @@ module _ {M : Type 1} (𝓤 : URA M) (H : Heap 𝓤) (A : Atoms 𝓤) (W : Given
             nearer : length (rs .now) - (t .i + 1) < length (rs .now) - t .i
             nearer = omega (arith, within)
 
-            can-note : (r : RefSpec) → r ≡ specAt (rs .now) (t .i) → Asked t r
+            can-note : (r : SpecRecord) → r ≡ specAt (rs .now) (t .i) → Asked t r
             can-note r e = (
               stood-sides (s .now) (rs .now) ready ts₀ (t .table) ns₀ (t .negatives) (t .count) (t .i) (t .stood) within r e,
               ready .specs-short,
-              omega (arith, within, ready .few),
-              omega (arith, within, ready .few, t .stood .small),
-              omega (arith, t .stood .room),
-              omega (arith, t .stood .room₂),
+              omega (arith, within, t .stood .room),
+              omega (arith, within, t .stood .small, t .stood .room₂),
             )
 
-            next : (r : RefSpec) → r ≡ specAt (rs .now) (t .i) → (k : ℕ) (ts ns : List ℕ) → Told t r k ts ns → At
+            next : (r : SpecRecord) → r ≡ specAt (rs .now) (t .i) → (k : ℕ) (ts ns : List ℕ) → Told t r k ts ns → At
             next r e k ts ns told = record {
               table = ts;
               negatives = ns;

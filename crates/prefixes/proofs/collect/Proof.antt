@@ -18,6 +18,9 @@ loop-holds c = search collecting-starts
 spec-of-requires : tie.Need-spec-of-requires Inv-loop μ-loop
 spec-of-requires c κs = (search needs, search needs)
 
+spec-from-requires : tie.Need-spec-from-requires Inv-loop μ-loop
+spec-from-requires c κs = search needs
+
 add-spec-requires : tie.Need-add-spec-requires Inv-loop μ-loop
 add-spec-requires c κs = (search needs, search collecting-within, search collecting-room, search needs)
 
@@ -47,6 +50,7 @@ collect-spec =
     μ-loop
     loop-holds
     spec-of-requires
+    spec-from-requires
     add-spec-requires
     add-i
     loop-less

@@ -6,7 +6,7 @@ use native.Mathlib.Omega.{arith}
 use denote.Ref.{now}
 use Rattle.matchers.specs.Numbers.{matcherAt}
 use Rattle.hits.specs.Hits.{hitBytes}
-use Rattle.hits.proofs.Writes.{HitsWritten, hits-begin, hits-end, turn-matcher, turn-ready, turn-spec, turn-item, turn-gives, turn-room, turn-next}
+use Rattle.hits.proofs.Writes.{HitsWritten, hits-begin, hits-end, hits-none, first-matcher, turn-matcher, turn-ready, turn-spec, turn-item, turn-gives, turn-room, turn-next}
 use borrow.Author.Needs.{needs}
 use Rattle.hits.proofs.put.put_hits.Statement.{statement}
 use Rattle.hits.proofs.put.put_hits.Tie as tie
@@ -17,8 +17,11 @@ Inv-loop out₀ at back specs table group items places n hits noted end₀ last�
 abbrev μ-loop : tie.MeasureT-loop
 μ-loop out₀ at back specs table group items places n hits noted end₀ last₀ m₀ k₀ out end last m k = noted - k
 
+returns : tie.Need-returns Inv-loop μ-loop
+returns c = search hits-none
+
 matcher-at-requires : tie.Need-matcher-at-requires Inv-loop μ-loop
-matcher-at-requires c κs = search needs
+matcher-at-requires c κs = search first-matcher
 
 loop-holds : tie.Need-loop-holds Inv-loop μ-loop
 loop-holds c = (search hits-begin, omega arith, search needs)
@@ -34,7 +37,7 @@ wider-requires c κs = search needs
 
 matcher-at-requires-2 : tie.Need-matcher-at-requires-2 Inv-loop μ-loop
 matcher-at-requires-2 c κs =
-    let s = c .before .before .before .before .before .before .before .before .before .before .before .before in
+    let s = c .before .before .before .before .before .before .before .before .before .before .before .before .before in
     let t = s .pre .0 in
     let q = s .pre .2 in
     let h = c .before .before .before .loop-test .taken in
@@ -44,13 +47,13 @@ put-hit-requires : tie.Need-put-hit-requires Inv-loop μ-loop
 put-hit-requires c κs =
     let b = c .before .before in
     let l = b .before .before .before in
-    let s = l .before .before .before .before .before .before .before .before in
+    let s = l .before .before .before .before .before .before .before .before .before in
     let t = s .pre .0 in
     let q = s .pre .2 in
     let h = b .before .before .loop-test .taken in
     let e = b .wider .ensures in
     let w = l .loop .inv .0 in
-    let em : c .before .if1 .m ≡ matcherAt (now (s .args .table)) (b .wider .result / 2048) = ⊎-elim (λ w. cc) (λ w. cc) (c .before .if1 .came) in
+    let em : c .before .if2 .m ≡ matcherAt (now (s .args .table)) (b .wider .result / 2048) = ⊎-elim (λ w. cc) (λ w. cc) (c .before .if2 .came) in
     (search turn-ready, search needs, search turn-spec, search turn-item, search turn-gives, turn-room _ _ _ _ t _ _ _ _ _ q _ h _ e _ em _ _ _ _ w)
 
 add-k : tie.Need-add-k Inv-loop μ-loop
@@ -64,21 +67,21 @@ loop-again c =
     let j = c .before .before .before .before in
     let b = j .before in
     let l = b .before .before .before in
-    let s = l .before .before .before .before .before .before .before .before in
+    let s = l .before .before .before .before .before .before .before .before .before in
     let t = s .pre .0 in
     let q = s .pre .2 in
     let h = b .before .before .loop-test .taken in
     let e = b .wider .ensures in
     let w = l .loop .inv .0 in
-    let em : j .if1 .m ≡ matcherAt (now (s .args .table)) (b .wider .result / 2048) = ⊎-elim (λ w. cc) (λ w. cc) (j .if1 .came) in
-    let f : j .if1 .m ≡ matcherAt (now (s .args .table)) (j .if1 .last) = ⊎-elim (λ w. cc) (λ w. cc) (j .if1 .came) in
+    let em : j .if2 .m ≡ matcherAt (now (s .args .table)) (b .wider .result / 2048) = ⊎-elim (λ w. cc) (λ w. cc) (j .if2 .came) in
+    let f : j .if2 .m ≡ matcherAt (now (s .args .table)) (j .if2 .last) = ⊎-elim (λ w. cc) (λ w. cc) (j .if2 .came) in
     (turn-next _ _ _ _ t _ _ _ _ _ q _ h _ e _ em _ _ _ _ w _ _ (c .before .before .put-hit .ensures), omega arith, f)
 
 same-length : tie.Need-same-length Inv-loop μ-loop
 same-length c = search needs
 
-returns : tie.Need-returns Inv-loop μ-loop
-returns c = search hits-end
+returns-2 : tie.Need-returns-2 Inv-loop μ-loop
+returns-2 c = search hits-end
 
 pub put-hits-spec : {M : Type 1} → statement M
 put-hits-spec =
@@ -86,6 +89,7 @@ put-hits-spec =
     (tie.spec
     Inv-loop
     μ-loop
+    returns
     matcher-at-requires
     loop-holds
     mul-wider
@@ -97,4 +101,4 @@ put-hits-spec =
     loop-less
     loop-again
     same-length
-    returns)
+    returns-2)

@@ -1,7 +1,7 @@
 -- `list::specs::each_spec` meets its contract: the specs that are behind and those that are left make the whole.
 use Prim.Native.Nat.{_-_}
 use lib.ListN.{length}
-use Rattle.list.proofs.Groups.{Filling, filling-starts, filling-room, filling-less, filling-more, filling-whole, filling-stop}
+use Rattle.list.proofs.Groups.{Filling, filling-starts, filling-room, filling-small, filling-less, filling-more, filling-whole, filling-stop}
 use borrow.Author.Needs.{needs}
 use Rattle.list.proofs.specs.each_spec.Statement.{statement}
 use Rattle.list.proofs.specs.each_spec.Tie as tie
@@ -26,6 +26,9 @@ spec-at-requires c κs = search needs
 
 enum-known-spec : tie.Need-enum-known-spec Inv-loop μ-loop
 enum-known-spec c = search needs
+
+record-of-requires : tie.Need-record-of-requires Inv-loop μ-loop
+record-of-requires c κs = search filling-small
 
 mul-specs : tie.Need-mul-specs Inv-loop μ-loop
 mul-specs c = search needs
@@ -65,6 +68,7 @@ each-spec-spec =
     loop-holds
     spec-at-requires
     enum-known-spec
+    record-of-requires
     mul-specs
     array-set-from-specs
     add-count

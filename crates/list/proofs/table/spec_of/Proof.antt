@@ -48,9 +48,9 @@ use denote.Triple.Walked.{says, needs, Stays, stay-none, walkOf, goes-none, Walk
 use denote.Triple.Clauses.{ensured, lasts}
 use denote.Exit.{yes}
 use Rattle.list.specs.Table.{specAt}
-use Rattle.parse.specs.declared.types.RefSpec.{RefSpec}
-use Rattle.parse.proofs.types.RefSpec as T
-use Rattle.parse.proofs.types.RefSpec.Laws as T′
+use Rattle.list.specs.declared.record.SpecRecord.{SpecRecord}
+use Rattle.list.proofs.record.SpecRecord as T
+use Rattle.list.proofs.record.SpecRecord.Laws as T′
 use Rattle.list.proofs.TableParts.{past, cut, mend}
 use Rattle.list.proofs.table.spec_at as callee
 use Rattle.list.proofs.table.spec_at.Symbol as callee-def
@@ -76,19 +76,19 @@ module _ {M : Type 1} (𝓤 : URA M) (H : Heap 𝓤) (A : Atoms 𝓤) (mem : Mem
   abbrev Callee : Contract 𝓤
   Callee = tripleOf 𝓤 H A callee.signature (callee.spec 𝓤 H A mem run)
 
-module _ {M : Type 1} (𝓤 : URA M) (H : Heap 𝓤) (A : Atoms 𝓤) (W : Given 𝓤 H A) (mem : Memory → SProp 𝓤) (run : Routine → Fun 𝓤) (xs : List RefSpec) (v : Val) (n i : ℕ) where
+module _ {M : Type 1} (𝓤 : URA M) (H : Heap 𝓤) (A : Atoms 𝓤) (W : Given 𝓤 H A) (mem : Memory → SProp 𝓤) (run : Routine → Fun 𝓤) (xs : List SpecRecord) (v : Val) (n i : ℕ) where
   -- the records that are lent
-  abbrev ys : List RefSpec
+  abbrev ys : List SpecRecord
   ys = take n xs
 
-  abbrev args : List RefSpec × (ℕ × (ℕ × Unit {0}))
+  abbrev args : List SpecRecord × (ℕ × (ℕ × Unit {0}))
   args = (xs, (n, (i, tt)))
 
   abbrev vs : Vals self.signature tt
   vs = (v ∷ [], (vint w64 n ∷ [], (vint w64 i ∷ [], tt)))
 
   -- the record that is handed on
-  abbrev elem : RefSpec
+  abbrev elem : SpecRecord
   elem = specAt ys i
 
   -- what is owed at the result
@@ -100,7 +100,7 @@ module _ {M : Type 1} (𝓤 : URA M) (H : Heap 𝓤) (A : Atoms 𝓤) (W : Given
   Own = B .own xs (v ∷ [])
 
   -- the slice that is lent, of the slot l
-  abbrev lent : ℕ → GName → RefT (List RefSpec)
+  abbrev lent : ℕ → GName → RefT (List SpecRecord)
   lent l γ = record { ptr = (l, 0); name = γ; now = ys }
 
   abbrev sv : ℕ → Val
@@ -116,11 +116,11 @@ module _ {M : Type 1} (𝓤 : URA M) (H : Heap 𝓤) (A : Atoms 𝓤) (W : Given
       qed W (‵ (ShrSlice (named 0) κ R .own (lent l γ) (sv l ∷ [])) ∷ ‵ (flft κ fullShare) ∷ []) ∵ says ! h $
       nothing ! $ owned ! usize (Is usize) (uint-makes 𝓤 H A W w64) i (vint w64 i ∷ []) (refl, gi) $ fjoin ! $ move ! (1 ∷ 0 ∷ []) $ fjoin ! $ nothing ! $ move ! (2 ∷ 0 ∷ []) $ join ! $ done !
 
-  said : (κ : Lft) (l : ℕ) (γ : GName) (r : RefSpec) → ent 𝓤 (ensured 𝓤 H A callee.ended (callee.clauses 𝓤 H A mem run) (κ, tt) (lent l γ, (i, tt)) tt r) (fact 𝓤 (r ≡ elem))
+  said : (κ : Lft) (l : ℕ) (γ : GName) (r : SpecRecord) → ent 𝓤 (ensured 𝓤 H A callee.ended (callee.clauses 𝓤 H A mem run) (κ, tt) (lent l γ, (i, tt)) tt r) (fact 𝓤 (r ≡ elem))
   said κ l γ r = exE 𝓤 _ (λ ws. snd∗ 𝓤 (sem 𝓤 H A (lasts callee.ended (κ, tt) (lent l γ, (i, tt)) ws)) (fact 𝓤 (r ≡ elem)))
 
   -- the walk's end
-  exits : (r : RefSpec) (u : Val) → r ≡ elem → n < 2 ^ 64 → i < 2 ^ 64 → ent 𝓤 (⋆ 𝓤 H A (‵ (R .own r (u ∷ [])) ∷ ‵ Own ∷ [])) (Post u)
+  exits : (r : SpecRecord) (u : Val) → r ≡ elem → n < 2 ^ 64 → i < 2 ^ 64 → ent 𝓤 (⋆ 𝓤 H A (‵ (R .own r (u ∷ [])) ∷ ‵ Own ∷ [])) (Post u)
   exits r u e gn gi =
       qed W (‵ (R .own r (u ∷ [])) ∷ ‵ Own ∷ []) ∵
       suffices ! _ (ends-at 𝓤 H A self.ended stayed (self.clauses 𝓤 H A mem run) W ((tt, tt, tt, args, vs), tt) u r (tt, (tt, (tt, tt))) (tt, (tt, (tt, tt)))) $ says ! e $
@@ -133,7 +133,7 @@ module _ {M : Type 1} (𝓤 : URA M) (H : Heap 𝓤) (A : Atoms 𝓤) (W : Given
         let fits-in : n ≤ length xs = omega arith in
         let e₂ : length ys ≡ n = length-take-le n xs fits-in in
         let room0 : length ys < 2 ^ 64 = omega arith in
-        let room1 : length ys * 56 < 2 ^ 63 = omega arith in
+        let room1 : length ys * 14 < 2 ^ 63 = omega arith in
         let within : i < length ys = omega arith in
         qed W (‵ ftrue ∷ ‵ (owns (B ∷ usize ∷ usize ∷ []) args vs) ∷ []) ∵ enter ! C Λ code.function (v ∷ vint w64 n ∷ vint w64 i ∷ []) _ $
         alloc1 ! (λ l₀. alloc1 ! (λ l₁. alloc1 ! (λ l₂. alloc1 ! (λ l₃. alloc1 ! (λ l₄. alloc1 ! (λ l₅. alloc1 ! (λ l₆. alloc0 ! $ params1 ! $
@@ -156,7 +156,7 @@ module _ {M : Type 1} (𝓤 : URA M) (H : Heap 𝓤) (A : Atoms 𝓤) (W : Given
         use2 W (raw (Callee 𝓤 H A mem run .pre (to (α ∷ []) l₄ γ))) (goes (α ∷ []) l₄ γ gi within) $
         -- [what the callee asks; `lent`; the others; what the table owns; the rest; _6; …; _5; …; (_4's right); _3; …; _2; …; _1; …; _0; …; true]
         calls-at ! fm (Callee 𝓤 H A mem run) known (to (α ∷ []) l₄ γ) (and-then ! (load ! (from ! (stop !)) (look ! 5 refl)) (and-then ! (load ! (from ! (stop !)) (look ! 10 refl)) (no-more !))) (λ u.
-        use1 W (later (some (λ (r : RefSpec). ((‵ (flft (α ∷ []) fullShare) ⊛ ‵ ftrue) ⊛ ‵ (R .own r (u ∷ []))) ⊛ raw (ensured 𝓤 H A callee.ended (callee.clauses 𝓤 H A mem run) (α ∷ [], tt) (lent l₄ γ, (i, tt)) tt r)))) (id⊢ 𝓤 _) $ await ! tt $ pick ! (λ r.
+        use1 W (later (some (λ (r : SpecRecord). ((‵ (flft (α ∷ []) fullShare) ⊛ ‵ ftrue) ⊛ ‵ (R .own r (u ∷ []))) ⊛ raw (ensured 𝓤 H A callee.ended (callee.clauses 𝓤 H A mem run) (α ∷ [], tt) (lent l₄ γ, (i, tt)) tt r)))) (id⊢ 𝓤 _) $ await ! tt $ pick ! (λ r.
         split ! $ move ! (1 ∷ []) $ use1 W (raw (fact 𝓤 (r ≡ elem))) (said (α ∷ []) l₄ γ r) $ heard ! (r ≡ elem) (λ e′. split ! $ move ! (1 ∷ []) $
         -- [the result; the token; `lent`; the others; what the table owns; the rest; _6; …; _5; …; (_4's right); _3; …; _2; …; _1; …; _0; …; true]
         peeks ! R (Is R) (shows 𝓤 H A R) r (u ∷ []) (λ is.

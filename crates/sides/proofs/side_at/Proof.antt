@@ -1,9 +1,9 @@
--- `matchers::side_at` meets its contract: a part of a spec list begins within it.
-use Rattle.matchers.proofs.Told.{at-small}
+-- `sides::side_at` meets its contract: a part of a spec list begins within it.
+use Rattle.sides.proofs.Told.{at-small}
 use borrow.Author.Needs.{needs}
-use Rattle.matchers.proofs.side_at.Statement.{statement}
-use Rattle.matchers.proofs.side_at.Tie as tie
-use Rattle.matchers.proofs.narrow.Reads as narrow-reads
+use Rattle.sides.proofs.side_at.Statement.{statement}
+use Rattle.sides.proofs.side_at.Tie as tie
+use Rattle.sides.proofs.narrow.Reads as narrow-reads
 
 enum-told : tie.Need-enum-told
 enum-told c = search needs

@@ -1,8 +1,8 @@
--- `matchers::side_from` meets its contract: each arm is one number.
-use Rattle.matchers.proofs.Told.{side-one, side-rest}
+-- `sides::side_from` meets its contract: each arm is one number.
+use Rattle.sides.proofs.Told.{side-one, side-rest}
 use borrow.Author.Needs.{needs}
-use Rattle.matchers.proofs.side_from.Statement.{statement}
-use Rattle.matchers.proofs.side_from.Tie as tie
+use Rattle.sides.proofs.side_from.Statement.{statement}
+use Rattle.sides.proofs.side_from.Tie as tie
 
 returns : tie.Need-returns
 returns c = search needs

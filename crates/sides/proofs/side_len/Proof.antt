@@ -1,9 +1,9 @@
--- `matchers::side_len` meets its contract: a part of a spec list is no longer than it.
-use Rattle.matchers.proofs.Told.{len-small}
+-- `sides::side_len` meets its contract: a part of a spec list is no longer than it.
+use Rattle.sides.proofs.Told.{len-small}
 use borrow.Author.Needs.{needs}
-use Rattle.matchers.proofs.side_len.Statement.{statement}
-use Rattle.matchers.proofs.side_len.Tie as tie
-use Rattle.matchers.proofs.narrow.Reads as narrow-reads
+use Rattle.sides.proofs.side_len.Statement.{statement}
+use Rattle.sides.proofs.side_len.Tie as tie
+use Rattle.sides.proofs.narrow.Reads as narrow-reads
 
 enum-told : tie.Need-enum-told
 enum-told c = search needs

@@ -1,0 +1,2 @@
+-- `Numbers`: a side of a spec as three numbers.
+pub mod Numbers
