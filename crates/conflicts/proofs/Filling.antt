@@ -15,10 +15,10 @@ use Rattle.parse.specs.declared.types.Side.{Side}
 use Rattle.parse.specs.declared.types.Side.the-variants.{Absent, Part, Head}
 use Rattle.parse.specs.Places.{sideMeant}
 use Rattle.list.specs.declared.cursor.Cursor.{Cursor}
-use Rattle.list.specs.declared.rows.RowPlace.{RowPlace}
-use Rattle.list.specs.declared.rows.RowStep.{RowStep}
-use Rattle.list.specs.declared.rows.RowStep.the-variants.{Row, End, Refused}
-use Rattle.list.specs.Rows.{rowMeant, rowStepAt, RowTaken, RowSays}
+use Rattle.row_list.specs.declared.RowPlace.{RowPlace}
+use Rattle.row_list.specs.declared.RowStep.{RowStep}
+use Rattle.row_list.specs.declared.RowStep.the-variants.{Row, End, Refused}
+use Rattle.row_list.specs.Rows.{rowMeant, rowStepAt, RowTaken, RowSays}
 use Rattle.order.specs.Sorting.{Above, Ascending}
 use Rattle.keys.specs.Keys.{rowOr, rowAt}
 use Rattle.conflicts.specs.Listed.{rowsIn, RowsRead, InList}

@@ -16,12 +16,12 @@ use Rattle.parse.specs.declared.types.Side.{Side}
 use Rattle.parse.specs.declared.types.Side.the-variants.{Absent, Part, Head}
 use Rattle.parse.specs.Places.{Within}
 use Rattle.list.specs.declared.cursor.Cursor.{Cursor}
-use Rattle.list.specs.declared.rows.RowPlace.{RowPlace}
-use Rattle.list.specs.declared.rows.RowStep.{RowStep}
-use Rattle.list.specs.declared.rows.RowStep.the-variants.{Row, End, Refused}
-use Rattle.list.specs.Rows.{rowMeant, rowPlace, placedRow, destinationPlace, rowStepAt, RowTaken, RowSays}
+use Rattle.row_list.specs.declared.RowPlace.{RowPlace}
+use Rattle.row_list.specs.declared.RowStep.{RowStep}
+use Rattle.row_list.specs.declared.RowStep.the-variants.{Row, End, Refused}
+use Rattle.row_list.specs.Rows.{rowMeant, rowPlace, placedRow, destinationPlace, rowStepAt, RowTaken, RowSays}
 use Rattle.list.proofs.Records.{accepted-within}
-use Rattle.list.proofs.RowWalks.{RowsLeft, rows-left, rows-next, rows-end, rows-refused}
+use Rattle.row_list.proofs.RowWalks.{RowsLeft, rows-left, rows-next, rows-end, rows-refused}
 use Rattle.conflicts.specs.Listed.{rowsIn, RowsRead, InList}
 
 -- where the cursor stands: j rows are behind it

@@ -9,11 +9,11 @@ use conflict::put_run;
 use conflict::run_size;
 use keys::key::Key;
 use list::cursor::Cursor;
-use list::rows::RowStep;
-use list::rows::next_row;
 use order::run::run_end;
 use order::sort::sort;
 use parse::types::Side;
+use row_list::RowStep;
+use row_list::next_row;
 
 // A place of a row list as it stands in an index.
 fn narrow(at: usize) -> u32

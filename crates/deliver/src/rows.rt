@@ -5,13 +5,10 @@ ghost use lib.ListN.{length};
 ghost use Rattle.meaning.specs.Limits.{programBytes};
 ghost use Rattle.meaning.specs.Deliveries.{rowLine};
 ghost use Rattle.buffer.specs.Splice.{splice};
-ghost use Rattle.list.specs.Rows.{rowMeant};
+ghost use Rattle.row_list.specs.Rows.{rowMeant};
 ghost use Rattle.deliver.specs.Printed.{rowsIn, linesOf, printedRows, Prints, Listed, RowStands};
 use super::PROGRAM_BYTES;
 use list::cursor::Cursor;
-use list::rows::RowPlace;
-use list::rows::RowStep;
-use list::rows::next_row;
 use parse::types::is_present;
 use print::line::header_size;
 use print::line::line_size;
@@ -19,6 +16,9 @@ use print::line::put_header;
 use print::line::put_line;
 use print::line::put_refusal;
 use refspec::side::text_of;
+use row_list::RowPlace;
+use row_list::RowStep;
+use row_list::next_row;
 
 // As many specs as a group can have.
 const SPECS: usize = 256;

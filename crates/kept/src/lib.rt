@@ -9,14 +9,14 @@ ghost use Rattle.meaning.specs.Validation.{isFull, isKept, fixOf, fixBytes};
 ghost use Rattle.buffer.specs.Splice.{splice};
 ghost use Rattle.number.specs.Reading.{largestNumber};
 ghost use Rattle.parse.specs.Places.{partAt, sideMeant, Within};
-ghost use Rattle.list.specs.Rows.{rowMeant, RowTaken};
+ghost use Rattle.row_list.specs.Rows.{rowMeant, RowTaken};
 ghost use Rattle.conflicts.specs.Listed.{rowsIn, RowsRead};
 ghost use Rattle.kept.specs.Rows.{keptBytes, fixOn, fixFor, rowFix};
 use list::cursor::Cursor;
-use list::rows::RowPlace;
-use list::rows::RowStep;
-use list::rows::next_row;
 use parse::types::Side;
+use row_list::RowPlace;
+use row_list::RowStep;
+use row_list::next_row;
 
 // How many bytes the kept rows and the fixes take.
 pub struct Lengths {

@@ -1,5 +1,5 @@
 -- What the numbers of an answer on a list tell: accepted where the refusal is 0, else refused with it. Assumes nothing.
-use mathlib.Core.Path.{_≡_, refl, sym, ap, _∙_}
+use mathlib.Core.Path.{_≡_, refl, ap, _∙_}
 use mathlib.Core.List.{List}
 use mathlib.Core.Option.{Option}
 use Prim.Native.Nat.{ℕ, _<_}
@@ -7,13 +7,11 @@ use native.Mathlib.Omega.{arith}
 use lib.ListN.{length}
 use Rattle.meaning.specs.Bytes.{Text}
 use Rattle.meaning.specs.Buffers.{orZero}
-use Rattle.meaning.specs.Spec.{Answer, accepted, refused, Spec}
+use Rattle.meaning.specs.Spec.{Answer, accepted, refused}
 use Rattle.meaning.specs.Lists.{readSpecs, readItems}
 use Rattle.meaning.specs.Rows.{readRows}
 use Rattle.list.specs.declared.items.Checked.{Checked}
-use Rattle.list.specs.declared.specs.Group.{Group}
 use Rattle.list.specs.Checked.{checked}
-use Rattle.list.specs.Group.{GroupIs, GroupRead}
 use Rattle.list.proofs.Refusals.{specs-refusal, items-refusal, rows-refusal}
 
 -- the records that were accepted, so many
@@ -71,18 +69,3 @@ module _ (specs : ℕ) (s : Text) (c : Checked) (e : c ≡ checked (readRows spe
 
   pub rows-failed : (c .refusal ≡ 0 → ⊥) → Failed (readRows specs s) (c .refusal) (c .«record»)
   rows-failed = failed (readRows specs s) (rows-refusal specs s) c e
-
--- the specs that were accepted, as a group holds them
-pub record GroupPassed (s : Text) (g : Group) (a : Answer (List Spec)) : Type 0 where
-  pub members : List Spec
-  pub answer : a ≡ accepted members
-  pub is : GroupIs s g members
-
--- a spec list
-pub group-passed : (s : Text) (g : Group) (a : Answer (List Spec)) → GroupRead s g a → g .refusal ≡ 0 → GroupPassed s g a
-group-passed s g (accepted l) r z = record { members = l; answer = refl; is = r }
-group-passed s g (refused n q) r z = let h = r .some in let e = r .refusal-is in absurd (omega arith)
-
-pub group-failed : (s : Text) (g : Group) (a : Answer (List Spec)) → GroupRead s g a → (g .refusal ≡ 0 → ⊥) → Failed a (g .refusal) (g .«record»)
-group-failed s g (accepted l) r z = absurd (z (r .refusal-is))
-group-failed s g (refused n q) r z = record { carried = q; answer = ap (λ (k : ℕ). refused k q) (sym (r .refusal-is)); number = r .record-is }

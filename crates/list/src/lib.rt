@@ -1,8 +1,4 @@
-//! Byte lists: a cursor over their records, and reading spec lists, item lists and row lists; the table of a group, lent.
+//! Byte lists: a cursor over their records, and reading item lists.
 pub mod cursor;
 pub mod items;
 pub mod places;
-pub mod record;
-pub mod rows;
-pub mod specs;
-pub mod table;

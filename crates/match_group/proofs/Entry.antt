@@ -18,10 +18,11 @@ use Rattle.buffer.proofs.Splices.{splice-start}
 use Rattle.list.specs.declared.items.Checked.{Checked}
 use Rattle.list.specs.Checked.{checked}
 use Rattle.list.specs.Places.{namesOf, PlacesOf, PlacesRead}
-use Rattle.list.specs.declared.specs.Group.{Group}
-use Rattle.list.specs.declared.record.SpecRecord.{SpecRecord}
-use Rattle.list.specs.Group.{groupMeant, GroupRead}
-use Rattle.list.proofs.Told.{Passed, items-passed, items-failed, GroupPassed, group-passed, group-failed}
+use Rattle.spec_list.specs.declared.Group.{Group}
+use Rattle.spec_list.specs.declared.record.SpecRecord.{SpecRecord}
+use Rattle.spec_list.specs.Group.{groupMeant, GroupRead}
+use Rattle.list.proofs.Told.{Passed, items-passed, items-failed}
+use Rattle.spec_list.proofs.Told.{GroupPassed, group-passed, group-failed}
 use Rattle.exclude.specs.Negatives.{Negatives, excludedBy}
 use Rattle.pair.specs.Asking.{Askable}
 use Rattle.hits.specs.Hits.{groupBytes}

@@ -4,7 +4,7 @@ ghost use Prim.Native.Nat.{_*_, _≤_};
 ghost use lib.ListN.{length, take};
 ghost use Rattle.meaning.specs.Buffers.{MeetsOne};
 ghost use Rattle.meaning.specs.Entries.{matchLhs, matchRhs};
-ghost use Rattle.list.specs.Group.{groupMeant};
+ghost use Rattle.spec_list.specs.Group.{groupMeant};
 ghost use Rattle.noted.specs.Reading.{Grouped};
 ghost use Rattle.match_group.specs.Listing.{listing, listed};
 
@@ -12,9 +12,9 @@ mod group;
 
 use group::list_group;
 use list::places::read_places;
-use list::record::SpecRecord;
-use list::specs::read_specs;
 use noted::note_group;
+use spec_list::read_specs;
+use spec_list::record::SpecRecord;
 use write::written::Written;
 
 // How many specs are few.

@@ -10,13 +10,13 @@ use Rattle.meaning.specs.Spec.{Spec}
 use Rattle.meaning.specs.Lists.{readSpecs, specRecord}
 use Rattle.promises.proofs.Members.{specs-list, group-texts}
 use Rattle.promises.proofs.Fitting.{spec-short}
-use Rattle.list.specs.declared.specs.Group.{Group}
-use Rattle.list.specs.declared.record.SpecRecord.{SpecRecord}
-use Rattle.list.specs.Table.{blank, specAt}
-use Rattle.list.specs.Group.{recordMeant, groupMeant}
-use Rattle.list.proofs.Groups.{all-within}
+use Rattle.spec_list.specs.declared.Group.{Group}
+use Rattle.spec_list.specs.declared.record.SpecRecord.{SpecRecord}
+use Rattle.spec_list.specs.Table.{blank, specAt}
+use Rattle.spec_list.specs.Group.{recordMeant, groupMeant}
+use Rattle.spec_list.proofs.Groups.{all-within}
 use Rattle.list.proofs.Records.{accepted-within}
-use Rattle.list.proofs.Told.{GroupPassed}
+use Rattle.spec_list.proofs.Told.{GroupPassed}
 use Rattle.noted.specs.Standing.{Notable, NotedAll}
 use Rattle.noted.specs.Reading.{Grouped, TableIs}
 

@@ -19,9 +19,9 @@ use Rattle.matchers.specs.Numbers.{matcherAt, noMatcher, Put}
 use Rattle.exclude.specs.Negatives.{Negatives}
 use Rattle.exclude.specs.Making.{Added}
 use Rattle.exclude.proofs.Filling.{negatives-none, negatives-next}
-use Rattle.list.specs.declared.record.SpecRecord.{SpecRecord}
-use Rattle.list.specs.Table.{specFrom, blank, specAt}
-use Rattle.list.specs.Group.{recordMeant, groupMeant}
+use Rattle.spec_list.specs.declared.record.SpecRecord.{SpecRecord}
+use Rattle.spec_list.specs.Table.{specFrom, blank, specAt}
+use Rattle.spec_list.specs.Group.{recordMeant, groupMeant}
 use Rattle.noted.specs.Standing.{Stands, NotedAt, Notable, NotedAll}
 
 -- ---- one spec

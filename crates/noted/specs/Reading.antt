@@ -8,9 +8,9 @@ use Rattle.meaning.specs.Bytes.{Text}
 use Rattle.meaning.specs.Limits.{listBytes, specCount, specBytes}
 use Rattle.meaning.specs.Spec.{Spec}
 use Rattle.matchers.specs.Numbers.{matcherAt}
-use Rattle.list.specs.declared.record.SpecRecord.{SpecRecord}
-use Rattle.list.specs.Table.{specAt}
-use Rattle.list.specs.Group.{recordMeant}
+use Rattle.spec_list.specs.declared.record.SpecRecord.{SpecRecord}
+use Rattle.spec_list.specs.Table.{specAt}
+use Rattle.spec_list.specs.Group.{recordMeant}
 use Rattle.exclude.specs.Negatives.{Negatives}
 use Rattle.noted.specs.Standing.{Stands, Notable}
 

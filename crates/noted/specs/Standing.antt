@@ -11,9 +11,9 @@ use Rattle.parse.specs.Places.{SidesWithin}
 use Rattle.matcher.specs.declared.types.Matcher.{Matcher}
 use Rattle.matcher.specs.Matching.{Matches}
 use Rattle.matchers.specs.Numbers.{matcherAt, noMatcher}
-use Rattle.list.specs.declared.record.SpecRecord.{SpecRecord}
-use Rattle.list.specs.Table.{specFrom, specAt}
-use Rattle.list.specs.Group.{recordMeant, groupMeant}
+use Rattle.spec_list.specs.declared.record.SpecRecord.{SpecRecord}
+use Rattle.spec_list.specs.Table.{specFrom, specAt}
+use Rattle.spec_list.specs.Group.{recordMeant, groupMeant}
 use Rattle.exclude.specs.Negatives.{Negatives}
 
 -- m stands for the spec s: it is the matcher of s, or that of a spec without rows where s is negative

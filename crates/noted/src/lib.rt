@@ -5,20 +5,20 @@ ghost use lib.ListN.{length, take};
 ghost use Rattle.meaning.specs.Limits.{listBytes};
 ghost use Rattle.parse.specs.Places.{specMeant, SidesWithin};
 ghost use Rattle.matcher.specs.Matching.{MatcherWithin};
-ghost use Rattle.list.specs.Table.{specFrom};
-ghost use Rattle.list.specs.Group.{recordMeant};
+ghost use Rattle.spec_list.specs.Table.{specFrom};
+ghost use Rattle.spec_list.specs.Group.{recordMeant};
 ghost use Rattle.exclude.specs.Making.{Added};
 ghost use Rattle.noted.specs.Standing.{Stands, NotedAt, Notable, NotedAll};
 use exclude::put_if_negative;
-use list::record::SpecRecord;
-use list::record::spec_from;
-use list::table::spec_at;
 use matcher::matcher;
 use matcher::types::Matcher;
 use matchers::no_matcher;
 use matchers::put_matcher;
 use parse::types::RefSpec;
 use parse::types::is_negative;
+use spec_list::record::SpecRecord;
+use spec_list::record::spec_from;
+use spec_list::table::spec_at;
 
 // What stands for a spec in a table.
 fn matcher_for(specs: &[u8], r: RefSpec) -> Matcher

@@ -22,10 +22,10 @@ use Rattle.write.specs.declared.prefixes.Yield.the-variants.{Nothing, One, Six}
 use Rattle.write.specs.Yields.{yieldPlace, yieldMeant, YieldWithin}
 use Rattle.refspec.proofs.Fronts.{remote-within}
 use Rattle.write.proofs.Lists.{expand-is, yield-within}
-use Rattle.list.specs.Group.{groupMeant, AllWithin}
-use Rattle.list.specs.declared.record.SpecRecord.{SpecRecord}
-use Rattle.list.specs.Table.{specFrom, specAt}
-use Rattle.list.proofs.Groups.{table-next, table-within, table-end}
+use Rattle.spec_list.specs.Group.{groupMeant, AllWithin}
+use Rattle.spec_list.specs.declared.record.SpecRecord.{SpecRecord}
+use Rattle.spec_list.specs.Table.{specFrom, specAt}
+use Rattle.spec_list.proofs.Groups.{table-next, table-within, table-end}
 use Rattle.prefixes.specs.declared.entry.Entry.{Entry}
 use Rattle.prefixes.specs.Distinct.{addAll}
 use Rattle.prefixes.specs.Table.{entryText, entry, sideEntry, tableTexts, EntryWithin, Entries, Entered}

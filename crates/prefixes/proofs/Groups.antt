@@ -17,9 +17,9 @@ use Rattle.meaning.specs.Prefix.{GroupPrefixes}
 use Rattle.meaning.specs.Buffers.{MeetsOne}
 use Rattle.meaning.specs.Entries.{IsGroupPrefixes}
 use Rattle.promises.proofs.Buffers.{meets-refused}
-use Rattle.list.specs.declared.specs.Group.{Group}
-use Rattle.list.specs.Group.{groupMeant, AllWithin, GroupRead}
-use Rattle.list.proofs.Told.{GroupPassed, group-passed, group-failed}
+use Rattle.spec_list.specs.declared.Group.{Group}
+use Rattle.spec_list.specs.Group.{groupMeant, AllWithin, GroupRead}
+use Rattle.spec_list.proofs.Told.{GroupPassed, group-passed, group-failed}
 use Rattle.prefixes.specs.Table.{tableTexts}
 use Rattle.prefixes.specs.Group.{groupTexts, Collected, MeetsPrefixes}
 use Rattle.prefixes.proofs.Distinct.{distinct-prefixes}

@@ -14,8 +14,8 @@ ghost use Rattle.validate.specs.Answers.{refusedWith, shortOf};
 use conflicts::put_conflicts;
 use kept::measure;
 use kept::put_rows;
-use list::rows::read_rows;
-use list::specs::check_specs;
+use row_list::read_rows;
+use spec_list::check_specs;
 
 // What a call tells beside its buffers: a refusal's number or 0; the record that it carries; 1 where the first buffer holds conflicts; how
 // many bytes it holds, or beside 17 the length for the short buffer; how many the fix buffer holds; and beside 17 the short buffer, 1 the

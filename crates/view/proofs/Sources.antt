@@ -17,10 +17,11 @@ use Rattle.promises.proofs.Viewing.{object-length, digits-begin}
 use Rattle.parse.specs.Places.{signLength}
 use Rattle.parse.proofs.Places.{unsigned-drop, sign-within}
 use Rattle.list.specs.declared.items.Checked.{Checked}
-use Rattle.list.specs.declared.specs.Group.{Group}
+use Rattle.spec_list.specs.declared.Group.{Group}
 use Rattle.list.specs.Checked.{checked}
-use Rattle.list.specs.Group.{GroupRead}
-use Rattle.list.proofs.Told.{Passed, GroupPassed, Failed, items-passed, items-failed, group-passed, group-failed}
+use Rattle.spec_list.specs.Group.{GroupRead}
+use Rattle.list.proofs.Told.{Passed, Failed, items-passed, items-failed}
+use Rattle.spec_list.proofs.Told.{GroupPassed, group-passed, group-failed}
 use Rattle.view.specs.declared.Part.{Part}
 use Rattle.view.specs.Places.{afterRecords, extentAt, partOf, refusedPart, acceptedPart, digitsAt, specDigits}
 use Rattle.view.proofs.Walks.{extent-text, extent-fits}

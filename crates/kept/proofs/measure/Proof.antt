@@ -1,7 +1,7 @@
 -- What is measured and the rows that are left make the whole, of the kept rows and of the fixes. Assumes nothing.
 use Prim.Native.Nat.{_-_}
 use lib.ListN.{length}
-use Rattle.list.proofs.RowSteps.{rows-less}
+use Rattle.row_list.proofs.RowSteps.{rows-less}
 use Rattle.kept.specs.Rows.{keptBytes, rowFix}
 use Rattle.kept.proofs.Walks.{Counted, within-more, row-taken, row-dst, row-spec, counted-starts, counted-short, counted-more, counted-fits, fix-counted, kept-counted, kept-refused, fixes-counted, fixes-refused}
 use borrow.Author.Needs.{needs}

@@ -1,7 +1,7 @@
 -- What is written and the rows that are left make the whole, of the kept rows and of the fixes. Assumes nothing.
 use Prim.Native.Nat.{_-_}
 use lib.ListN.{length}
-use Rattle.list.proofs.RowSteps.{rows-less}
+use Rattle.row_list.proofs.RowSteps.{rows-less}
 use Rattle.kept.specs.Rows.{keptBytes, rowFix}
 use Rattle.kept.proofs.Walks.{Written, row-taken, kept-starts, fixes-starts, written-short, written-kept, kept-room, fixes-room, written-more, kept-written, kept-length, fixes-written, fixes-length, kept-unwritten, kept-no-length, fixes-unwritten, fixes-no-length}
 use borrow.Author.Needs.{needs}

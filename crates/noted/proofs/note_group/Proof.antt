@@ -49,10 +49,10 @@ use denote.Triple.Table.{entered, cited}
 use denote.Triple.Walked.{says, needs, Stays, stay-none, stay-none-slice, gave-slice, walkOf, goes-none, goes-none-slice, goes-gave-slice, Walks, ends-at, walked, walk-meets}
 use denote.Triple.Clauses.{Lasts, ensured, lasts}
 use denote.Exit.{yes}
-use Rattle.list.specs.declared.record.SpecRecord.{SpecRecord}
-use Rattle.list.proofs.record.SpecRecord as T
-use Rattle.list.proofs.record.SpecRecord.Laws as T′
-use Rattle.list.proofs.TableParts.{past, cut, mend}
+use Rattle.spec_list.specs.declared.record.SpecRecord.{SpecRecord}
+use Rattle.spec_list.proofs.record.SpecRecord as T
+use Rattle.spec_list.proofs.record.SpecRecord.Laws as T′
+use Rattle.spec_list.proofs.TableParts.{past, cut, mend}
 use Rattle.noted.specs.Standing.{Notable, NotedAll}
 use Rattle.noted.proofs.note_specs as callee
 use Rattle.noted.proofs.note_specs.Symbol as callee-def

@@ -49,15 +49,15 @@ use borrow.Author.Tests.{ltb-true, ltb-false}
 use Rattle.meaning.specs.Limits.{listBytes}
 use Rattle.parse.specs.Places.{SidesWithin}
 use Rattle.exclude.specs.Making.{Added}
-use Rattle.list.specs.declared.record.SpecRecord.{SpecRecord}
-use Rattle.list.specs.Table.{specFrom, specAt}
-use Rattle.list.specs.Group.{recordMeant}
-use Rattle.list.proofs.record.SpecRecord as T
-use Rattle.list.proofs.record.SpecRecord.Laws as T′
-use Rattle.list.proofs.table.spec_at as spec-at
-use Rattle.list.proofs.table.spec_at.Symbol as spec-at-def
-use Rattle.list.proofs.table.spec_at.Symbol.{name as #list·table·spec-at}
-use Rattle.list.proofs.table.spec_at.Met as spec-at-thm
+use Rattle.spec_list.specs.declared.record.SpecRecord.{SpecRecord}
+use Rattle.spec_list.specs.Table.{specFrom, specAt}
+use Rattle.spec_list.specs.Group.{recordMeant}
+use Rattle.spec_list.proofs.record.SpecRecord as T
+use Rattle.spec_list.proofs.record.SpecRecord.Laws as T′
+use Rattle.spec_list.proofs.table.spec_at as spec-at
+use Rattle.spec_list.proofs.table.spec_at.Symbol as spec-at-def
+use Rattle.spec_list.proofs.table.spec_at.Symbol.{name as #spec-list·table·spec-at}
+use Rattle.spec_list.proofs.table.spec_at.Met as spec-at-thm
 use Rattle.noted.specs.Standing.{NotedAt, Notable}
 use Rattle.noted.proofs.Again.{LentAgain, lends-again, comes-back}
 use Rattle.noted.proofs.Stood.{Stood, stood-none, stood-next, stood-sides, stood-all}
@@ -240,7 +240,7 @@ module _ {M : Type 1} (𝓤 : URA M) (H : Heap 𝓤) (A : Atoms 𝓤) (W : Given
         nothing ! $ move ! (4 ∷ 0 ∷ []) $ fjoin ! $ move ! (3 ∷ 0 ∷ []) $ fjoin ! $ move ! (2 ∷ 0 ∷ []) $ fjoin ! $ move ! (1 ∷ 0 ∷ []) $ fjoin ! $ frame ! $
         owned ! usize (Is usize) (uint-makes 𝓤 H A W w64) (t .count) (vint w64 (t .count) ∷ []) (refl, count-fits t) $ done !
 
-    module _ (𝓣 : Tables 𝓤 H) (fm : FmC 𝓤 H (W .laws) (𝓣 .C)) (known : Triple 𝓤 (𝓣 .C #list·table·spec-at) (SpecAt 𝓤 H A mem run)) (known₂ : Triple 𝓤 (𝓣 .C #noted·note) (Note 𝓤 H A mem run)) where
+    module _ (𝓣 : Tables 𝓤 H) (fm : FmC 𝓤 H (W .laws) (𝓣 .C)) (known : Triple 𝓤 (𝓣 .C #spec-list·table·spec-at) (SpecAt 𝓤 H A mem run)) (known₂ : Triple 𝓤 (𝓣 .C #noted·note) (Note 𝓤 H A mem run)) where
       abbrev C : Calls 𝓤 H
       C = 𝓣 .C
 
@@ -397,7 +397,7 @@ module _ {M : Type 1} (𝓤 : URA M) (H : Heap 𝓤) (A : Atoms 𝓤) (W : Given
           move ! (1 ∷ 6 ∷ []) $ drop ! $ drop ! $ move ! (3 ∷ 2 ∷ 1 ∷ 0 ∷ 7 ∷ 6 ∷ 5 ∷ 4 ∷ []) $
           first ! $ blocks ! $ loops ! 𝓣 Nearer Nearer-wf (Inv l₀ l₁ l₂ l₃ l₄ l₅ l₆ l₇ l₈ l₉ l₁₀ l₁₁ l₁₂ l₁₃) (turns l₀ l₁ l₂ l₃ l₄ l₅ l₆ l₇ l₈ l₉ l₁₀ l₁₁ l₁₂ l₁₃) begun))))))))))))))
 
-module _ {M : Type 1} (𝓤 : URA M) (H : Heap 𝓤) (A : Atoms 𝓤) (W : Given 𝓤 H A) (mem : Memory → SProp 𝓤) (run : Routine → Fun 𝓤) (𝓣 : Tables 𝓤 H) (known : Triple 𝓤 (𝓣 .C #list·table·spec-at) (SpecAt 𝓤 H A mem run)) (known₂ : Triple 𝓤 (𝓣 .C #noted·note) (Note 𝓤 H A mem run)) where
+module _ {M : Type 1} (𝓤 : URA M) (H : Heap 𝓤) (A : Atoms 𝓤) (W : Given 𝓤 H A) (mem : Memory → SProp 𝓤) (run : Routine → Fun 𝓤) (𝓣 : Tables 𝓤 H) (known : Triple 𝓤 (𝓣 .C #spec-list·table·spec-at) (SpecAt 𝓤 H A mem run)) (known₂ : Triple 𝓤 (𝓣 .C #noted·note) (Note 𝓤 H A mem run)) where
   self-walks : Walks 𝓤 H A self.ended stayed (WpFn 𝓤 H (𝓣 .C) (𝓣 .Λ) code.function) (self.clauses 𝓤 H A mem run)
   self-walks = walked 𝓤 H A self.ended stayed (self.clauses 𝓤 H A mem run) (WpFn 𝓤 H (𝓣 .C) (𝓣 .Λ) code.function) (λ κs. (slice-vals, (slice-vals, (slice-vals, (slice-vals, tt)))))
       (λ κs. (shr-slice-tells (named 0) (κs .0) u8, (shr-slice-tells (named 1) (κs .1 .0) R, (mut-slice-tells (named 2) (κs .1 .1 .0) u16, (mut-slice-tells (named 3) (κs .1 .1 .1 .0) u16, tt)))))
@@ -416,5 +416,5 @@ note-specs-spec 𝓤 H 𝓜 𝓖 𝓡 =
     entered 𝓤 H (tripleOf 𝓤 H (𝓖 .A) self.signature (self.spec 𝓤 H (𝓖 .A) (𝓜 .mem) (𝓡 .run)))
     (tables 𝓤 H 𝓜 𝓡 code.env .C) (tables 𝓤 H 𝓜 𝓡 code.env .Λ) #noted·note-specs code.function (code.unfolded 𝓤 H 𝓜 𝓡)
     (self-meets 𝓤 H (𝓖 .A) (givenOf 𝓤 H 𝓜 𝓖) (𝓜 .mem) (𝓡 .run) (tablesOf 𝓤 H 𝓜 (tables 𝓤 H 𝓜 𝓡 code.env))
-    (cited 𝓤 H (SpecAt 𝓤 H (𝓖 .A) (𝓜 .mem) (𝓡 .run)) 𝓜 𝓡 code.env #list·table·spec-at spec-at-def.routine code.calls-list·table·spec-at (spec-at-thm.met 𝓤 H 𝓜 𝓖 𝓡))
+    (cited 𝓤 H (SpecAt 𝓤 H (𝓖 .A) (𝓜 .mem) (𝓡 .run)) 𝓜 𝓡 code.env #spec-list·table·spec-at spec-at-def.routine code.calls-spec-list·table·spec-at (spec-at-thm.met 𝓤 H 𝓜 𝓖 𝓡))
     (cited 𝓤 H (Note 𝓤 H (𝓖 .A) (𝓜 .mem) (𝓡 .run)) 𝓜 𝓡 code.env #noted·note note-def.routine code.calls-noted·note (note-thm.met 𝓤 H 𝓜 𝓖 𝓡)))

@@ -3,8 +3,8 @@ use Rattle.validate.proofs.Entry.{specs-refused, rows-refused, rows-jud
 use borrow.Author.Needs.{needs}
 use Rattle.validate.proofs.validated.Statement.{statement}
 use Rattle.validate.proofs.validated.Tie as tie
-use Rattle.list.proofs.rows.read_rows.Reads as read-rows-reads
-use Rattle.list.proofs.specs.check_specs.Reads as check-specs-reads
+use Rattle.row_list.proofs.read_rows.Reads as read-rows-reads
+use Rattle.spec_list.proofs.check_specs.Reads as check-specs-reads
 use Rattle.validate.proofs.judged.Reads as judged-reads
 use Rattle.validate.proofs.refused.Reads as refused-reads
 

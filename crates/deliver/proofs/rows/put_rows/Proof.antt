@@ -1,7 +1,7 @@
 -- `deliver::rows::put_rows` meets its contract: what is written and the rows that are left make the whole.
 use Prim.Native.Nat.{_-_}
 use lib.ListN.{length}
-use Rattle.list.proofs.RowSteps.{rows-less}
+use Rattle.row_list.proofs.RowSteps.{rows-less}
 use Rattle.deliver.proofs.Walks.{Written, row-stands, written-starts, written-room, written-more, written-put, written-ends, never-put, never-ends}
 use borrow.Author.Needs.{needs}
 use Rattle.deliver.proofs.rows.put_rows.Statement.{statement}

@@ -1,7 +1,7 @@
 -- `deliver::rows::rows_size` meets its contract: what is measured and the rows that are left make the whole.
 use Prim.Native.Nat.{_-_}
 use lib.ListN.{length}
-use Rattle.list.proofs.RowSteps.{rows-less}
+use Rattle.row_list.proofs.RowSteps.{rows-less}
 use Rattle.deliver.proofs.Walks.{Measured, row-stands, measured-starts, measured-fits, measured-more, measured-whole, measured-small, measured-never}
 use borrow.Author.Needs.{needs}
 use Rattle.deliver.proofs.rows.rows_size.Statement.{statement}

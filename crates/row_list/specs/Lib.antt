@@ -1,0 +1,2 @@
+-- `Rows`: what stands at a place of a row list.
+pub mod Rows

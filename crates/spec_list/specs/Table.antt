@@ -1,0 +1,20 @@
+-- A record of a table of specs, and the spec that it tells.
+use Prim.Native.Nat.{ℕ}
+use mathlib.Core.List.{List}
+use lib.ListN.{getD}
+use Rattle.parse.specs.declared.types.RefSpec.{RefSpec}
+use Rattle.parse.specs.declared.types.Mode.the-variants.{Normal}
+use Rattle.sides.specs.Numbers.{sideFrom}
+use Rattle.spec_list.specs.declared.record.SpecRecord.{SpecRecord}
+
+-- the spec that a record tells
+abbrev pub specFrom : SpecRecord → RefSpec
+specFrom q = record { mode = q .mode; src = sideFrom (q .«src_kind») (q .«src_at») (q .«src_len»); dst = sideFrom (q .«dst_kind») (q .«dst_at») (q .«dst_len») }
+
+-- what a table is read as outside its bounds
+abbrev pub blank : SpecRecord
+blank = record { mode = Normal; «src_kind» = 0; «src_at» = 0; «src_len» = 0; «dst_kind» = 0; «dst_at» = 0; «dst_len» = 0 }
+
+-- record number i of a table
+abbrev pub specAt : List SpecRecord → ℕ → SpecRecord
+specAt table i = getD table i blank
