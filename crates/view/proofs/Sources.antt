@@ -17,11 +17,8 @@ use Rattle.promises.proofs.Viewing.{object-length, digits-begin}
 use Rattle.parse.specs.Places.{signLength}
 use Rattle.parse.proofs.Places.{unsigned-drop, sign-within}
 use Rattle.list.specs.declared.items.Checked.{Checked}
-use Rattle.spec_list.specs.declared.Group.{Group}
 use Rattle.list.specs.Checked.{checked}
-use Rattle.spec_list.specs.Group.{GroupRead}
-use Rattle.list.proofs.Told.{Passed, Failed, items-passed, items-failed}
-use Rattle.spec_list.proofs.Told.{GroupPassed, group-passed, group-failed}
+use Rattle.list.proofs.Told.{Passed, Failed, specs-passed, specs-failed, items-passed, items-failed}
 use Rattle.view.specs.declared.Part.{Part}
 use Rattle.view.specs.Places.{afterRecords, extentAt, partOf, refusedPart, acceptedPart, digitsAt, specDigits}
 use Rattle.view.proofs.Walks.{extent-text, extent-fits}
@@ -79,16 +76,16 @@ unfolding meaning.sourceView
 both-read op specs items field spec group names e f = rw (e, f)
 
 -- the answers
-module _ (op : ℕ) (specs items : Text) (field spec : ℕ) (g : Group) (gs : GroupRead specs g (readSpecs op specs)) where
+module _ (op : ℕ) (specs items : Text) (field spec : ℕ) (g : Checked) (gs : g ≡ checked (readSpecs op specs)) where
   -- the spec list is refused
   pub source-specs : (r : Part) → (g .refusal ≡ 0 → ⊥) → r ≡ refusedPart (g .refusal) (g .«record») → r ≡ partOf (meaning.sourceView op specs items field spec)
   source-specs r z e =
-      let f = group-failed specs g (readSpecs op specs) gs z in
+      let f = specs-failed op specs g gs z in
       e ∙ refused-is (readSpecs op specs) (g .refusal) (g .«record») f ∙ sym (ap partOf (specs-no op specs items field spec (g .refusal) (f .carried) (f .answer)))
 
   module _ (gz : g .refusal ≡ 0) (c : Checked) (cs : c ≡ checked (readItems items)) where
-    group : GroupPassed specs g (readSpecs op specs)
-    group = group-passed specs g (readSpecs op specs) gs gz
+    group : Passed (readSpecs op specs) (g .count)
+    group = specs-passed op specs g gs gz
 
     -- the item list is refused
     pub source-items : (r : Part) → (c .refusal ≡ 0 → ⊥) → r ≡ refusedPart (c .refusal) (c .«record») → r ≡ partOf (meaning.sourceView op specs items field spec)
@@ -107,11 +104,11 @@ module _ (op : ℕ) (specs items : Text) (field spec : ℕ) (g : Group) (gs : Gr
 
       -- the spec number is not in the list
       pub source-outside : (r : Part) → g .count ≤ spec → r ≡ refusedPart 16 0 → r ≡ partOf (meaning.sourceView op specs items field spec)
-      source-outside r h e = e ∙ sym (ap partOf (read-as none (nth-none (group .members) spec (omega (arith, group .is .count-is)))))
+      source-outside r h e = e ∙ sym (ap partOf (read-as none (nth-none (group .members) spec (omega (arith, group .counted)))))
 
       module _ (h : spec < g .count) where
         there : (s : Spec) × (meaning.nth (group .members) spec ≡ some s)
-        there = nth-there (group .members) spec (omega (arith, group .is .count-is))
+        there = nth-there (group .members) spec (omega (arith, group .counted))
 
         read-there : (m : ℕ) → field ≡ m → meaning.sourceView op specs items field spec ≡ meaning.viewOf specs items (some (there .0)) (names .members) m spec
         read-there m k = read-as (some (there .0)) (there .1) ∙ ap (λ (x : ℕ). meaning.viewOf specs items (some (there .0)) (names .members) x spec) k

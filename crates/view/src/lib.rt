@@ -155,7 +155,7 @@ fn item_part(items: &[u8], j: usize) -> Part
 pub fn source(op: u64, specs: &[u8], items: &[u8], item_field: u64, spec: u64) -> Part
     ensures { λ r. ⌜ r ≡ partOf (sourceView op (now (specs .entry)) (now (items .entry)) «item_field» spec) ⌝ }
 {
-    let g = spec_list::read_specs(op, specs);
+    let g = spec_list::check_specs(op, specs);
     if g.refusal != 0 {
         return refused(g.refusal, g.record);
     }

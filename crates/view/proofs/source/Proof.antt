@@ -4,8 +4,8 @@ use borrow.Author.Needs.{needs}
 use Rattle.view.proofs.source.Statement.{statement}
 use Rattle.view.proofs.source.Tie as tie
 
-read-specs-requires : tie.Need-read-specs-requires
-read-specs-requires c κs = search needs
+check-specs-requires : tie.Need-check-specs-requires
+check-specs-requires c κs = search needs
 
 refused-requires : tie.Need-refused-requires
 refused-requires c κs = search needs
@@ -53,7 +53,7 @@ pub source-spec : {M : Type 1} → statement M
 source-spec =
     tie.close
     (tie.spec
-    read-specs-requires
+    check-specs-requires
     refused-requires
     returns
     read-items-requires
