@@ -51,7 +51,7 @@ module _ (s p : Text) where
   pub same-never : (length s ≡ length p → ⊥) → false ≡ same s p
   same-never n = sym (same-other-length s p n)
 
-or-false : (b : Bool) → (b or false) ≡ b
+pub or-false : (b : Bool) → (b or false) ≡ b
 or-false true = refl
 or-false false = refl
 

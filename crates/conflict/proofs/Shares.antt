@@ -7,7 +7,7 @@ use native.Mathlib.Nat.{add-zero}
 use native.Mathlib.Omega.{arith}
 use mir.Val.{Fits}
 use mir.Syntax.{w64}
-use lib.ListN.{length, getD, take, length-append}
+use lib.ListN.{length, getD, take, length-append, length-map}
 use lib.Seq.{length-take-le}
 use Rattle.meaning.specs.Bytes.{Text, any, keep, each, In, here, there}
 use Rattle.meaning.specs.Number.{numberBytes, textBytes}
@@ -45,10 +45,6 @@ first-two (r ∷ l) h = go (keep (differ r) (firstSeen l)) refl h
         let f : In r (r ∷ l) = here in
         in-any (λ x. any (differ x) (r ∷ l)) f (in-any (differ r) j (m .1))
 
-pub map-long : {A B : Type 0} (f : A → B) (l : List A) → length (map f l) ≡ length l
-map-long f [] = refl
-map-long f (x ∷ l) = ap suc (map-long f l)
-
 pub each-map : {A B C : Type 0} (f : A → B) (g : B → List C) (l : List A) → each (map f l) g ≡ each l (λ x. g (f x))
 each-map f g [] = refl
 each-map f g (x ∷ l) = ap (λ k. g (f x) ++ k) (each-map f g l)
@@ -63,7 +59,7 @@ module _ (rows : List Row) (d : Text) where
   one-is h = go (inConflict rows d) refl
     where
       go : (b : Bool) → inConflict rows d ≡ b → b ≡ false
-      go true e = let t = two-listed rows d (found-two rows d e) in absurd (omega (arith, map-long rowSource (sourcesOn rows d)))
+      go true e = let t = two-listed rows d (found-two rows d e) in absurd (omega (arith, length-map (sourcesOn rows d) rowSource))
       go false e = refl
 
   part-none : length (sourcesOn rows d) < 2 → conflictPart rows d ≡ []
@@ -72,7 +68,7 @@ module _ (rows : List Row) (d : Text) where
 
   part-pieces : 2 ≤ length (sourcesOn rows d) → conflictPart rows d ≡ listedBytes d (sourcesOn rows d)
   unfolding conflictPart conflictOn conflictBytes sourcesOn listedBytes
-  part-pieces h = rw (two-is h, map-long rowSource (sourcesOn rows d), each-map rowSource sourceBytes (sourcesOn rows d))
+  part-pieces h = rw (two-is h, length-map (sourcesOn rows d) rowSource, each-map rowSource sourceBytes (sourcesOn rows d))
 
 -- rows at places
 
@@ -128,7 +124,7 @@ module _ (s : Text) (l : List ℕ) (run : OneRun s l) where
     rows-are = ap (rowsAt s) firsts ∙ firsts-rows s l ∙ sym sources-are
 
     counted : n ≡ length (sourcesOn (rowsAt s l) dst)
-    counted = omega (arith, length-take-le n e (rw long few), map-long (rowAt s) (take n e), ap length rows-are)
+    counted = omega (arith, length-take-le n e (rw long few), length-map (take n e) (rowAt s), ap length rows-are)
 
     one-none : n < 2 → runBytes s l ≡ []
     unfolding runBytes
@@ -176,7 +172,7 @@ module _ (s : Text) (l : List ℕ) (run : OneRun s l) where
 -- `counted_size`: so many rows are the first of their source, and the sources take so many bytes
 module _ (s : Text) (l : List ℕ) (run : OneRun s l) (count : ℕ) (ec : count ≡ length (firstsAt s l)) where
   seen : count ≡ length (sourcesOn (rowsAt s l) (destinationAt s (getD l 0 0)))
-  seen = ec ∙ sym (map-long (rowAt s) (firstsAt s l)) ∙ ap length (firsts-rows s l ∙ sym (sources-are s l run))
+  seen = ec ∙ sym (length-map (firstsAt s l) (rowAt s)) ∙ ap length (firsts-rows s l ∙ sym (sources-are s l run))
 
   pub few-none : count < 2 → 0 ≡ length (runBytes s l)
   unfolding runBytes
@@ -219,7 +215,7 @@ module _ (s : Text) (l : List ℕ) (p : ℕ) (ep : p ≡ getD l 0 0) where
 
   listed-pieces : listedAt s l ≡ text ++ (numberBytes (length l) ++ sourcesAt s l)
   unfolding listedAt listedBytes sourcesAt
-  listed-pieces = rw (← ep, map-long (rowAt s) l)
+  listed-pieces = rw (← ep, length-map l (rowAt s))
 
   module _ (x y z : ℕ) (small-x : x ≤ 1048579) (ey : y ≡ length (numberBytes (length l))) where
     pub size-two : Fits w64 (x + y)
@@ -294,7 +290,7 @@ module _ (s : Text) (l : List ℕ) (o : Text) (end : ℕ) (fits : end + length (
 
   all-pieces : listedAt s l ≡ headAt s l ++ sourcesAt s l
   unfolding listedAt listedBytes headAt sourcesAt
-  all-pieces = rw (map-long (rowAt s) l) (sym (append-assoc (textBytes (destinationAt s (getD l 0 0))) (numberBytes (length l)) (sourcesBytes (rowsAt s l))))
+  all-pieces = rw (length-map l (rowAt s)) (sym (append-assoc (textBytes (destinationAt s (getD l 0 0))) (numberBytes (length l)) (sourcesBytes (rowsAt s l))))
 
   begun : Writing o end all o end all
   begun = writing-starts o end all fits

@@ -3,18 +3,19 @@ use mathlib.Core.Path.{_≡_, refl, sym, ap, _∙_, subst}
 use mathlib.Core.Bool.{Bool, true, false, cond}
 use mathlib.Core.List.{List, [], _∷_}
 use mathlib.Core.Option.{Option, none, some}
-use Prim.Native.Nat.{ℕ, zero, suc, _+_, _-_, _≤_, _<_}
+use Prim.Native.Nat.{ℕ, suc, _+_, _-_, _≤_, _<_}
 use native.Mathlib.Omega.{arith}
 use native.Mathlib.Numerals.{add-one}
 use lib.Dec.{ltb}
 use lib.ListN.{length, drop}
-use Rattle.meaning.specs.Bytes.{Text, _and_, _or_}
+use Rattle.meaning.specs.Bytes.{Text}
 use Rattle.meaning.specs.Spec.{accepted}
 use Rattle.meaning.specs.Number.{Step, took, no}
 use Rattle.meaning.specs.Rows as meaning
 use Rattle.parse.specs.declared.types.Side.{Side}
 use Rattle.parse.specs.declared.types.Side.the-variants.{Absent, Part, Head}
 use Rattle.parse.specs.Places.{Within}
+use Rattle.list.proofs.Standing.{drop-rest}
 use Rattle.list.specs.declared.cursor.Cursor.{Cursor}
 use Rattle.row_list.specs.declared.RowPlace.{RowPlace}
 use Rattle.row_list.specs.declared.RowStep.{RowStep}
@@ -39,13 +40,6 @@ module _ (specs : ℕ) (s : Text) (r : RowsRead specs s) where
 
   pub at-start : (at : ℕ) → at ≡ 0 → At specs s at 0
   at-start at e = record { left = rw (e, r .reads) (rows-left specs s (r .list) (r .reads)); short = list-short }
-
--- what follows the first of those that are left
-pub drop-rest : {A : Type 0} (l : List A) (i : ℕ) (x : A) (rest : List A) → drop i l ≡ x ∷ rest → rest ≡ drop (suc i) l
-drop-rest [] zero x rest e = absurd (let z : _≡_ {A = ℕ} 0 1 = cc in omega arith)
-drop-rest [] (suc i) x rest e = absurd (let z : _≡_ {A = ℕ} 0 1 = cc in omega arith)
-drop-rest (y ∷ l) zero x rest e = cc
-drop-rest (y ∷ l) (suc i) x rest e = drop-rest l i x rest e
 
 -- the row that the cursor hands back is the next one
 pub record Next (specs : ℕ) (s : Text) (row : RowPlace) (next j : ℕ) : Type 0 where

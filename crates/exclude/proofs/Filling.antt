@@ -13,6 +13,7 @@ use lib.Seq.{take-suc}
 use Rattle.meaning.specs.Bytes.{Text, _or_, any}
 use Rattle.meaning.specs.Spec.{Spec, isNegative}
 use Rattle.meaning.specs.Listing.{excludes}
+use Rattle.compare.proofs.Sames.{or-false}
 use Rattle.parse.specs.declared.types.RefSpec.{RefSpec}
 use Rattle.parse.specs.Places.{modeMeant, SidesWithin, specMeant}
 use Rattle.exclude.specs.declared.Negative.{Negative}
@@ -21,10 +22,6 @@ use Rattle.exclude.specs.Making.{negativeOf, Put, Added}
 use Rattle.exclude.proofs.Forms.{negative-within, negative-excludes, positive-excludes}
 use Rattle.exclude.proofs.Arms.{within-more}
 use Rattle.exclude.proofs.Tables.{excluded-kept}
-
-or-false : (b : Bool) → (b or false) ≡ b
-or-false true = refl
-or-false false = refl
 
 -- ---- one spec
 

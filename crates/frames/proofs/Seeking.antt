@@ -9,10 +9,10 @@ use mir.Val.{Fits}
 use mir.Syntax.{w64}
 use lib.Dec.{eqb}
 use lib.ListN.{length, take, drop, getD}
-use Rattle.meaning.specs.Bytes.{Text, bytes, _and_, _or_, any, same, begins}
+use Rattle.meaning.specs.Bytes.{Text, bytes, _and_, any, same, begins}
 use Rattle.meaning.specs.Prefix.{candidates}
 use Rattle.text.proofs.Rests.{rest-part}
-use Rattle.compare.proofs.Sames.{eqb-swap, same-other-length}
+use Rattle.compare.proofs.Sames.{eqb-swap, same-other-length, or-false}
 use Rattle.frames.specs.Frames.{Framing, candidate, frameAt, adds, frameAdding}
 use Rattle.frames.proofs.Candidates.{six, candidate-framed, candidate-length, leading-within, trailing-within}
 
@@ -171,10 +171,6 @@ module _ (test : Text → Bool) where
   any-none : (l : List Text) → ((j : ℕ) → j < length l → test (getD l j []) ≡ false) → any test l ≡ false
   any-none [] h = refl
   any-none (x ∷ l) h = rw (h 0 (omega arith)) (any-none l (λ j i. h (suc j) (omega arith)))
-
-  or-false : (b : Bool) → (b or false) ≡ b
-  or-false true = refl
-  or-false false = refl
 
   -- none but one does
   any-one : (l : List Text) (k : ℕ) → k < length l → ((j : ℕ) → j < length l → (j ≡ k → ⊥) → test (getD l j []) ≡ false) → any test l ≡ test (getD l k [])

@@ -56,9 +56,6 @@ module _ (items : Text) (places : List ℕ) (n : ℕ) (p : PlacesIn items places
     pub place-short : (t : Text) (a b : ℕ) → a ≡ getD places (2 * j) 0 → b ≡ getD places (2 * j + 1) 0 → t ≡ partAt items a b → length t ≤ 4096
     place-short t a b e f g = rw (place-name t a b e f g) name-short
 
-pub part-fits : (items : Text) (places : List ℕ) (n : ℕ) → PlacesIn items places n → (at k : ℕ) → at + k ≤ length items → Fits w64 (at + k)
-part-fits items places n p at k h = omega (arith, p .small)
-
 module _ (specs : Text) (table : List ℕ) (group : ℕ) (t : TableReady specs table group) (i : ℕ) (h : i < group) where
   pub matcher-room : 10 * i + 10 ≤ length table
   matcher-room = omega (arith, t .few, t .room)

@@ -2,20 +2,20 @@
 use mathlib.Core.Path.{_≡_, refl, sym, ap, _∙_, subst}
 use mathlib.Core.Bool.{Bool, true, false, cond}
 use mathlib.Core.List.{List, [], _∷_, _++_, append-nil, append-assoc}
-use Prim.Native.Nat.{ℕ, zero, suc, _+_, _*_, _/_, _%_, _≤_, _<_}
+use Prim.Native.Nat.{ℕ, zero, suc, _+_, _/_, _%_, _≤_, _<_}
 use native.Mathlib.Omega.{arith}
 use native.Mathlib.Numerals.{add-one}
 use borrow.Author.Tests.{eqb-true, eqb-false}
 use lib.Dec.{eqb}
-use lib.ListN.{length, getD, take, length-append, length-take}
+use lib.ListN.{length, getD, take, length-take}
 use lib.Seq.{getD-take}
 use Rattle.meaning.specs.Bytes.{Text, each}
 use Rattle.parse.specs.Places.{partAt}
 use Rattle.filter.specs.Filters.{nameAt}
-use Rattle.pair.specs.Pairs.{itemBytes, objectBytes, fieldBytes}
+use Rattle.pair.specs.Pairs.{objectBytes}
 use Rattle.pair.proofs.Fields.{pair-stands, object-stands}
-use Rattle.hits.specs.Hits.{across, specAt, pairBytes, namesBytes, specBytes, groupBytes, objectsBytes, hitOf, hitIf, pairHits, namesHits, specHits, groupHits, objectHits, hitBytes}
-use Rattle.hits.specs.Noting.{Adds, Good, AllGood}
+use Rattle.hits.specs.Hits.{across, specAt, pairBytes, specBytes, groupBytes, objectsBytes, hitOf, hitIf, pairHits, specHits, groupHits, objectHits, hitBytes}
+use Rattle.hits.specs.Noting.{Good, AllGood}
 use Rattle.hits.proofs.Across.{across-few}
 
 each-append : (f : ℕ → Text) (l m : List ℕ) → each (l ++ m) f ≡ each l f ++ each m f

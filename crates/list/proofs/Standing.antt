@@ -3,16 +3,14 @@ use mathlib.Core.Path.{_≡_, refl, sym, ap, _∙_, subst}
 use mathlib.Core.Bool.{Bool, true, false, cond}
 use mathlib.Core.Logic.{_⊎_, inl, inr}
 use mathlib.Core.List.{List, [], _∷_}
-use Prim.Native.Nat.{ℕ, zero, suc, _+_, _-_, _*_, _≤_, _<_}
+use Prim.Native.Nat.{ℕ, zero, suc, _+_, _*_, _≤_, _<_}
 use native.Mathlib.Nat.{eq-or-lt-of-le}
 use native.Mathlib.Numerals.{add-one}
 use native.Mathlib.Omega.{arith}
 use borrow.Author.Tests.{lt-ltb, ltb-true, ltb-false, leb-true, leb-false}
-use mir.Val.{Fits}
-use mir.Syntax.{w64}
 use lib.Dec.{leb, ltb}
-use lib.ListN.{length, getD, set, take, drop, length-set, drop-of-length-le}
-use lib.Seq.{getD-set-same, getD-set-other, drop-cons}
+use lib.ListN.{length, getD, set, take, drop, length-set}
+use lib.Seq.{getD-set-same, getD-set-other}
 use Rattle.meaning.specs.Bytes.{Text}
 use Rattle.meaning.specs.Limits.{nameBytes}
 use Rattle.meaning.specs.Number as meaning
@@ -27,7 +25,7 @@ use Rattle.list.specs.declared.cursor.Step.the-variants.{Record, End, Re
 use Rattle.list.specs.declared.items.Checked.{Checked}
 use Rattle.list.specs.Cursor.{placedStep, stepAt}
 use Rattle.list.specs.Checked.{checked, itemAt}
-use Rattle.list.specs.Places.{namesOf, PlacesOf, PlacesRead}
+use Rattle.list.specs.Places.{PlacesOf, PlacesRead}
 use Rattle.list.proofs.Texts.{TextAt, stands, malformed, text-at}
 use Rattle.list.proofs.ItemRecords.{item-beyond, item-malformed, item-long, item-read}
 use Rattle.list.proofs.Steps.{step-taken, ItemsLeft, items-left, ItemNext, items-next}
@@ -214,48 +212,3 @@ module _ (items : Text) (at n : ℕ) (w : Step) (ew : w ≡ itemAt n items at) w
 -- it is too long
 pub standing-long : (items : Text) (places : List ℕ) → 65535 < length items → PlacesRead items places places (record { refusal = 12; «record» = 0; count = 0 })
 standing-long items places h = record { answer = items-too-long items h; noted = λ z. absurd (omega arith); size = refl }
-
--- ---- looking up
-
--- the names of an item list
-abbrev pub namesIn : Text → List Text
-namesIn items = namesOf (readItems items)
-
--- the bytes of a slice
-abbrev pub nameAt : Text → ℕ → ℕ → Text
-nameAt items start len = take (start + len - start) (drop start items)
-
-pub name-is : (items : Text) (start len : ℕ) → take len (drop start items) ≡ nameAt items start len
-name-is items start len = let h : len ≡ start + len - start = omega arith in ap (λ n. take n (drop start items)) h
-
--- a name that was noted
-module _ (items : Text) (places : List ℕ) (n : ℕ) (p : PlacesOf items places n) (j : ℕ) where
-  module _ (h : j < n) where
-    pub place-few : j < 1024
-    place-few = omega (arith, p .few)
-
-    pub place-start : 2 * j < length places
-    place-start = omega (arith, p .few, p .room)
-
-    pub place-len : 2 * j + 1 < length places
-    place-len = omega (arith, p .few, p .room)
-
-    pub place-inside : getD places (2 * j) 0 + getD places (2 * j + 1) 0 ≤ length items
-    place-inside = p .within j h
-
-    pub place-fits : Fits w64 (getD places (2 * j) 0 + getD places (2 * j + 1) 0)
-    place-fits = omega (arith, p .within j h, p .small)
-
-    pub place-short : length (nameAt items (getD places (2 * j) 0) (getD places (2 * j + 1) 0)) ≤ 4096
-    place-short = omega (arith, ap length (name-is items (getD places (2 * j) 0) (getD places (2 * j + 1) 0)), part-length items (getD places (2 * j) 0) (getD places (2 * j + 1) 0) (p .within j h), p .short j h)
-
-    pub place-next : drop j (namesIn items) ≡ nameAt items (getD places (2 * j) 0) (getD places (2 * j + 1) 0) ∷ drop (suc j) (namesIn items)
-    place-next =
-        drop-cons (namesIn items) j [] (omega (arith, p .all))
-        ∙ ap (λ (t : Text). t ∷ drop (suc j) (namesIn items)) (p .is j h ∙ name-is items (getD places (2 * j) 0) (getD places (2 * j + 1) 0))
-
-  pub places-few : j ≤ n → j ≤ 1024
-  places-few h = omega (arith, p .few)
-
-  pub place-end : n ≤ j → drop j (namesIn items) ≡ []
-  place-end h = drop-of-length-le (namesIn items) {i = j} (omega (arith, p .all))

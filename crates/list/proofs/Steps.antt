@@ -1,7 +1,7 @@
 -- What a cursor's answer says of its list, and a walk over an item list that was read. Assumes nothing.
 use mathlib.Core.Path.{_≡_, refl, sym, ap, _∙_}
 use mathlib.Core.Bool.{Bool, true, false, cond}
-use mathlib.Core.List.{List, [], _∷_}
+use mathlib.Core.List.{List, _∷_}
 use mathlib.Core.Option.{some}
 use Prim.Native.Nat.{ℕ, suc, _+_, _-_, _<_, _≤_}
 use native.Mathlib.Omega.{arith}
@@ -23,8 +23,8 @@ use Rattle.list.specs.declared.cursor.Step.{Step}
 use Rattle.list.specs.declared.cursor.Step.the-variants.{Record, End, Refused}
 use Rattle.list.specs.Cursor.{placedStep, stepAt}
 use Rattle.list.proofs.Texts.{TextAt, stands, malformed, text-at, bytes-taken, bytes-short, placed-bytes, text-from, number-within, text-none}
-use Rattle.list.proofs.Records.{accepted-records, first-of, records-past, records-no, records-took}
-use Rattle.list.proofs.ItemRecords.{item-beyond, item-malformed, item-long, item-read}
+use Rattle.list.proofs.Records.{accepted-records, first-of, records-no, records-took}
+use Rattle.list.proofs.ItemRecords.{item-beyond, item-long, item-read}
 
 -- the answers of `record_at`
 pub record-short : (s : Text) (start len : ℕ) → length s - start < len → Refused 13 ≡ placedStep s (meaning.readBytes len (drop start s))
@@ -146,19 +146,3 @@ module _ (items : Text) (at j : ℕ) (rest : List Text) (l : ItemsLeft items at 
             short = short;
             inside = omega (arith, t .ends, t .within);
           }
-
-  -- at the end none is left
-  pub items-end : stepAt items at ≡ End → rest ≡ []
-  items-end e =
-      let q : accepted [] ≡ accepted rest = sym (records-past itemRecord items-shrink items at j (step-end items at e)) ∙ l .reads in
-      cc
-
-  -- a list that was read refuses no more
-  pub items-refused : {A : Type 0} (n : ℕ) → stepAt items at ≡ Refused n → A
-  items-refused n e =
-      let t = step-refused items at n e in
-      go (ltb j 1024) refl t
-    where
-      go : {A : Type 0} (b : Bool) → ltb j 1024 ≡ b → Turned items at n → A
-      go false h t = not-refused 14 (t .here) (item-beyond j (drop at items) (ltb-false j 1024 h))
-      go true h t = not-refused 13 (t .here) (item-malformed j (drop at items) (ltb-true j 1024 h) (t .reads))

@@ -1,13 +1,13 @@
 -- A listing as a whole: measured, then written, and how it meets its buffer. Assumes nothing.
 use mathlib.Core.Path.{_≡_, refl, sym, ap, _∙_}
 use mathlib.Core.Bool.{Bool, true, false}
-use mathlib.Core.List.{List, [], _∷_, _++_}
+use mathlib.Core.List.{List, [], _∷_}
 use mathlib.Core.Option.{Option, some}
 use Prim.Native.Nat.{ℕ, _+_, _*_, _≤_, _<_}
 use native.Mathlib.Omega.{arith}
 use lib.ListN.{length, take, length-append}
 use Rattle.meaning.specs.Bytes.{Text}
-use Rattle.meaning.specs.Spec.{Spec, Answer, accepted, refused}
+use Rattle.meaning.specs.Spec.{Spec, accepted, refused}
 use Rattle.meaning.specs.Lists.{readSpecs, readItems}
 use Rattle.meaning.specs.Rows.{rowListOf}
 use Rattle.meaning.specs.Buffers.{MeetsOne}
@@ -16,14 +16,13 @@ use Rattle.promises.proofs.Buffers.{meets-refused, meets-short, meets-written}
 use Rattle.buffer.specs.Splice.{splice}
 use Rattle.buffer.proofs.Splices.{splice-start}
 use Rattle.list.specs.declared.items.Checked.{Checked}
-use Rattle.list.specs.Checked.{checked}
-use Rattle.list.specs.Places.{namesOf, PlacesOf, PlacesRead}
+use Rattle.list.specs.Places.{namesOf, PlacesRead}
 use Rattle.spec_list.specs.declared.Group.{Group}
 use Rattle.spec_list.specs.declared.record.SpecRecord.{SpecRecord}
 use Rattle.spec_list.specs.Group.{groupMeant, GroupRead}
 use Rattle.list.proofs.Told.{Passed, items-passed, items-failed}
 use Rattle.spec_list.proofs.Told.{GroupPassed, group-passed, group-failed}
-use Rattle.exclude.specs.Negatives.{Negatives, excludedBy}
+use Rattle.exclude.specs.Negatives.{excludedBy}
 use Rattle.pair.specs.Asking.{Askable}
 use Rattle.hits.specs.Hits.{groupBytes}
 use Rattle.hits.specs.Noting.{PlacesIn, TableReady}

@@ -1,13 +1,10 @@
 -- The bytes of a listing are those that the loops write, spec by spec and item by item. Assumes nothing.
 use mathlib.Core.Path.{_≡_, refl, sym, ap, _∙_}
 use mathlib.Core.Bool.{Bool, true, false, not, cond}
-use mathlib.Core.List.{List, [], _∷_, _++_, append-assoc, append-nil}
+use mathlib.Core.List.{List, [], _∷_, _++_, append-assoc}
 use mathlib.Core.Option.{Option, none, some, Option·map}
-use Prim.Native.Nat.{ℕ, zero, suc, _+_, _*_, _≤_}
-use native.Mathlib.Omega.{arith}
-use lib.Dec.{eqb}
-use lib.ListN.{length, length-append}
-use Rattle.meaning.specs.Bytes.{Text, _or_, any, keep, each, numberedFrom, numbered}
+use Prim.Native.Nat.{ℕ, suc, _+_}
+use Rattle.meaning.specs.Bytes.{Text, any, keep, each, numberedFrom, numbered}
 use Rattle.meaning.specs.Spec.{Spec, isNegative}
 use Rattle.meaning.specs.Rows.{Row, rowBytes, rowListOf}
 use Rattle.meaning.specs.Match.{formOf, objectSource, whole, Mapped, unmapped, mapped, mapsTo}

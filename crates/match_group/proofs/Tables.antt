@@ -1,21 +1,20 @@
 -- The tables of a group and the places of names give what the group and the names give. Assumes nothing.
-use mathlib.Core.Path.{_≡_, refl, sym, ap, _∙_, subst}
+use mathlib.Core.Path.{_≡_, refl, sym, ap, _∙_}
 use mathlib.Core.Bool.{Bool, true, false, cond}
 use mathlib.Core.List.{List, [], _∷_, _++_}
 use mathlib.Core.Option.{Option, none, some, Option·map}
 use Prim.Native.Nat.{ℕ, zero, suc, _+_, _*_, _≤_, _<_}
 use native.Mathlib.Omega.{arith}
 use lib.ListN.{length, getD}
-use Rattle.meaning.specs.Bytes.{Text, bytes, _or_, begins, objectId}
+use Rattle.meaning.specs.Bytes.{Text}
 use Rattle.meaning.specs.Spec.{Spec, isNegative, starred}
 use Rattle.meaning.specs.Lists.{readItems}
 use Rattle.meaning.specs.Rows.{rowListOf}
 use Rattle.meaning.specs.Prefix.{beforeStar}
 use Rattle.meaning.specs.Match.{literal, pattern, afterStar, formOf, formNeedle, plainNeedle, needleOf, objectIn, objectBy, objectSource, forward, reverse}
 use Rattle.meaning.specs.Listing.{forwardEnds, reverseEnds, objectRows}
-use Rattle.parse.specs.Places.{sideMeant, partAt}
 use Rattle.matcher.specs.declared.types.Matcher.{Matcher}
-use Rattle.matcher.specs.Matching.{Matches, MatcherWithin}
+use Rattle.matcher.specs.Matching.{Matches}
 use Rattle.matchers.specs.Numbers.{matcherAt, noMatcher}
 use Rattle.list.specs.Places.{namesOf, PlacesOf}
 use Rattle.filter.specs.Filters.{nameAt}
@@ -27,7 +26,7 @@ use Rattle.hits.specs.Noting.{PlacesIn, TableReady}
 use Rattle.hits.proofs.Across.{across-same}
 use Rattle.noted.specs.Standing.{Stands}
 use Rattle.noted.specs.Reading.{TableIs}
-use Rattle.match_group.specs.Listing.{eachFrom, itemsFrom, specBytes, listingBytes, firstBytes, tableBytes}
+use Rattle.match_group.specs.Listing.{eachFrom, itemsFrom, specBytes, listingBytes, tableBytes}
 
 -- ---- one spec
 

@@ -1,7 +1,7 @@
 -- The parts of a listing are written: what was noted gives what was measured. Assumes nothing.
-use mathlib.Core.Path.{_≡_, refl, sym, ap, _∙_}
+use mathlib.Core.Path.{_≡_, refl, ap, _∙_}
 use mathlib.Core.Bool.{Bool, true, false}
-use mathlib.Core.List.{List, [], _∷_, _++_}
+use mathlib.Core.List.{List, [], _∷_}
 use Prim.Native.Nat.{ℕ, zero, suc, _+_, _-_, _≤_, _<_}
 use native.Mathlib.Omega.{arith}
 use lib.ListN.{length, take, length-append}
@@ -11,7 +11,7 @@ use Rattle.buffer.proofs.Splices.{length-splice, splice-next}
 use Rattle.buffer.proofs.Writing.{Writing, writing-starts, writing-room, writing-more, written-place, written-whole}
 use Rattle.pair.specs.Asking.{Put}
 use Rattle.hits.specs.Hits.{across, specBytes, groupBytes, objectsBytes, specHits, groupHits, objectHits, hitBytes}
-use Rattle.hits.specs.Noting.{PlacesIn, TableReady, Adds, AllGood}
+use Rattle.hits.specs.Noting.{PlacesIn, Adds, AllGood}
 use Rattle.hits.proofs.Across.{across-next, across-none}
 use Rattle.hits.proofs.Given.{group-noted-gives, group-noted-good, spec-noted-gives, spec-noted-good, objects-noted-give, objects-noted-good, spec-few-hits, objects-few-hits}
 use Rattle.match_group.specs.Listing.{firstBytes, firstHits, tableBytes, Noted}

@@ -5,7 +5,7 @@ use mathlib.Core.Path.{_≡_, refl, sym, ap, _∙_}
 use mathlib.Core.Bool.{Bool, true, false}
 use mathlib.Core.Option.{some}
 use lib.ListN.{length, take, drop}
-use Rattle.meaning.specs.Bytes.{Text, bytes, star, _or_, begins, objectId}
+use Rattle.meaning.specs.Bytes.{Text, bytes, star, begins, objectId}
 use Rattle.meaning.specs.Spec.{isNegative, starred}
 use Rattle.meaning.specs.Prefix.{beforeStar}
 use Rattle.meaning.specs.Match.{literal, pattern, formOf, plainNeedle, needleOf, completed}
@@ -102,9 +102,6 @@ needle-within at n needle.PartialName h = tt
 
 -- the arms of a `match` on a source
 module _ (specs : Text) (negative : Bool) (s : Side) where
-  pub needle-absent : s ≡ side.Absent → NeedleFor specs negative s needle.Absent
-  needle-absent e = rw e (record { meant = refl; within = tt })
-
   pub needle-side : (at n : ℕ) (r : Needle) → s ≡ side.Part at n → Within (length specs) s → NeedleOf negative (partAt specs at n) r → NeedleFor specs negative s r
   needle-side at n r e w h =
       let l : at + n ≤ length specs = rw e at w in
@@ -161,9 +158,6 @@ target-within at n (target.Literal l) h = tt
 
 -- the arms of a `match` on a destination
 module _ (specs : Text) (s : Side) where
-  pub target-absent : s ≡ side.Absent → TargetFor specs s target.Absent
-  target-absent e = rw e (record { meant = refl; completes = tt; within = tt })
-
   pub target-side : (at n : ℕ) (r : Target) → s ≡ side.Part at n → Within (length specs) s → TargetOf (partAt specs at n) r → TargetFor specs s r
   target-side at n r e w h =
       let l : at + n ≤ length specs = rw e at w in

@@ -71,10 +71,6 @@ source-five : (s : Side) (n : Needle) → length (sourceNumbers s n) ≡ 5
 unfolding sourceNumbers
 source-five s n = refl
 
-destination-five : (s : Side) (r : Target) → length (destinationNumbers s r) ≡ 5
-unfolding destinationNumbers
-destination-five s r = refl
-
 -- ---- a matcher stored
 module _ (t : Text) (k : ℕ) (m : Matcher) where
   -- its numbers

@@ -1,7 +1,7 @@
 // The matchers of a group as flat numbers, ten for each, so that they can be lent without copying.
 ghost use mathlib.Core.Path.{_≡_};
 ghost use mathlib.Core.List.{[], _∷_};
-ghost use Prim.Native.Nat.{_+_, _*_, _≤_, _<_};
+ghost use Prim.Native.Nat.{_+_, _*_, _≤_};
 ghost use lib.ListN.{length};
 ghost use Rattle.meaning.specs.Limits.{listBytes};
 ghost use Rattle.buffer.specs.Splice.{splice};

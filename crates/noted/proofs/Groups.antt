@@ -1,8 +1,7 @@
 -- A group that was read can be noted, and then stands in its tables. Assumes nothing.
 use mathlib.Core.Path.{_≡_, refl, sym, ap, _∙_}
 use mathlib.Core.List.{List, [], _∷_, map}
-use mathlib.Core.Option.{some}
-use Prim.Native.Nat.{ℕ, zero, suc, _+_, _≤_, _<_}
+use Prim.Native.Nat.{ℕ, zero, suc, _≤_, _<_}
 use native.Mathlib.Omega.{arith}
 use lib.ListN.{length, take, getD, length-map}
 use Rattle.meaning.specs.Bytes.{Text, In, here, there}
@@ -17,7 +16,7 @@ use Rattle.spec_list.specs.Group.{recordMeant, groupMeant}
 use Rattle.spec_list.proofs.Groups.{all-within}
 use Rattle.list.proofs.Records.{accepted-within}
 use Rattle.spec_list.proofs.Told.{GroupPassed}
-use Rattle.noted.specs.Standing.{Notable, NotedAll}
+use Rattle.noted.specs.Standing.{NotedAll}
 use Rattle.noted.specs.Reading.{Grouped, TableIs}
 
 map-at : {A B : Type 0} (f : A → B) (l : List A) (i : ℕ) (a : A) (b : B) → i < length l → getD (map f l) i b ≡ f (getD l i a)

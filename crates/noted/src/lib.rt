@@ -1,5 +1,4 @@
 // The specs of a group noted once for all names: their matchers as flat numbers, and the negatives apart.
-ghost use mathlib.Core.Path.{_≡_};
 ghost use Prim.Native.Nat.{_+_, _*_, _≤_};
 ghost use lib.ListN.{length, take};
 ghost use Rattle.meaning.specs.Limits.{listBytes};

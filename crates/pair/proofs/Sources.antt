@@ -1,9 +1,8 @@
 -- Whether the source of a row is gone. Assumes nothing.
-use mathlib.Core.Path.{_≡_, refl, sym, ap, _∙_}
-use mathlib.Core.Bool.{Bool, false}
+use mathlib.Core.Path.{_≡_, sym, ap, _∙_}
+use mathlib.Core.Bool.{Bool}
 use mathlib.Core.List.{List, _++_}
-use Prim.Native.Nat.{ℕ, _+_, _-_, _≤_}
-use native.Mathlib.Omega.{arith}
+use Prim.Native.Nat.{ℕ, _+_, _-_}
 use lib.ListN.{length, take, drop}
 use lib.Seq.{take-append-seam}
 use Rattle.meaning.specs.Bytes.{Text, orEmpty}
@@ -29,9 +28,6 @@ module _ (d t o : Text) (n : ℕ) (size : n ≡ length t) (e : o ≡ splice d 0 
 
 -- the source of a row
 module _ (specs name : Text) (table : List ℕ) (count : ℕ) (source : Made) where
-  pub none-asked : count ≡ 0 → false ≡ excludedBy specs table count (orEmpty (madeMeant specs name source))
-  none-asked e = rw e
-
   pub name-asked : source ≡ Name → (r : Bool) → r ≡ excludedBy specs table count name → r ≡ excludedBy specs table count (orEmpty (madeMeant specs name source))
   name-asked e r h = rw e h
 

@@ -2,26 +2,24 @@
 use Prim.Native.Nat.{ℕ, _+_, _-_, _*_, _/_, _%_, _≤_, _<_}
 use native.Mathlib.Omega.{arith}
 use mathlib.Core.Path.{_≡_, refl, sym, ap, _∙_}
-use mathlib.Core.Bool.{Bool, true, false}
-use mathlib.Core.List.{List, [], _∷_, _++_, append-assoc, append-nil}
+use mathlib.Core.Bool.{Bool, true}
+use mathlib.Core.List.{[], _∷_, _++_, append-nil}
 use mathlib.Core.Option.{Option, none, some}
 use borrow.Author.Tests.{eqb-true}
 use lib.Dec.{eqb}
 use lib.ListN.{length, getD, take, drop, take-append-drop, length-take, length-drop}
 use lib.Seq.{drop-drop}
 use Rattle.meaning.specs.Bytes.{Text, bytes, same}
-use Rattle.meaning.specs.Number.{recordBytes}
-use Rattle.meaning.specs.Spec.{Answer, accepted, refused, Spec, readSpec}
+use Rattle.meaning.specs.Spec.{accepted, refused, Spec, readSpec}
 use Rattle.meaning.specs.Instruction.{instruction, canonicalText}
 use Rattle.meaning.specs.Prefix.{namePrefix, prefix, prefixOf, expandPrefixes}
 use Rattle.promises.proofs.Laws.{same-is}
 use Rattle.text.proofs.Rests.{rest-cons, rest-end, rest-part}
 use Rattle.parse.specs.declared.types.Side.{Side}
 use Rattle.parse.specs.declared.types.Side.the-variants.{Absent, Part, Head}
-use Rattle.parse.specs.declared.types.RefSpec.{RefSpec}
 use Rattle.parse.specs.declared.Parsed.{Parsed}
 use Rattle.parse.specs.declared.Parsed.the-variants as reading
-use Rattle.parse.specs.Places.{partAt, sideMeant, Within, SidesWithin, specMeant, parsed}
+use Rattle.parse.specs.Places.{partAt, sideMeant, Within, specMeant, parsed}
 use Rattle.parse.proofs.Parts.{part-of, part-length}
 use Rattle.parse.proofs.Answers.{read-accepted, read-refused, read-within}
 use Rattle.refspec.specs.declared.instruction.Instruction.{Instruction}
@@ -35,10 +33,10 @@ use Rattle.refspec.specs.Prefixes.{remotePlace, prefixAt, prefixPlace, prefixed
 use Rattle.refspec.proofs.Instructions.{instruction-meant}
 use Rattle.refspec.proofs.Fronts.{IsFront, prefix-front, prefix-meant, remote-meant, remote-within}
 use Rattle.recorded.specs.declared.field.Next.{Next}
-use Rattle.recorded.specs.declared.field.Next.the-variants.{At, Differs}
+use Rattle.recorded.specs.declared.field.Next.the-variants.{At}
 use Rattle.recorded.specs.Record.{sized, flagByte, kindByte, forceByte, instructionBytes, prefixBytes, prefixesBytes, answerBytes, answerRecord, IsRecord}
 use Rattle.recorded.specs.Field.{Stands, Found, Reads, Instructs}
-use Rattle.recorded.proofs.Fields.{found-at, found-both, stands-both}
+use Rattle.recorded.proofs.Fields.{found-at, found-both}
 
 -- ---- the instruction
 

@@ -1,10 +1,10 @@
 -- What a call on one spec has written, where it tells no refusal. Assumes nothing.
 use Prim.Native.Nat.{ℕ, _≤_}
 use native.Mathlib.Omega.{arith}
-use mathlib.Core.Path.{_≡_, refl, sym, ap, _∙_}
-use mathlib.Core.Bool.{Bool, true, false, cond}
+use mathlib.Core.Path.{_≡_, refl, sym, _∙_}
+use mathlib.Core.Bool.{Bool, true, false}
 use mathlib.Core.List.{List, [], _∷_, _++_}
-use mathlib.Core.Option.{Option, none, some}
+use mathlib.Core.Option.{Option, some}
 use lib.Dec.{leb}
 use lib.ListN.{length, take, drop, length-append}
 use lib.Seq.{take-at, length-take-le}
@@ -13,7 +13,7 @@ use Rattle.meaning.specs.Number.{recordBytes}
 use Rattle.meaning.specs.Spec.{Answer, accepted, refused, Spec, readSpec}
 use Rattle.meaning.specs.Instruction.{canonicalText}
 use Rattle.meaning.specs.Prefix.{expandPrefixes}
-use Rattle.meaning.specs.Buffers.{Outcome, refuses, short, writes, outcome, buffersAfter, Tells, oneLength, MeetsOne}
+use Rattle.meaning.specs.Buffers.{refuses, short, writes, outcome, Tells, MeetsOne}
 use Rattle.meaning.specs.Entries.{_andThen_, toBstring, expanded}
 use Rattle.recorded.specs.declared.field.Next.{Next}
 use Rattle.recorded.specs.Record.{sized, prefixesBytes}

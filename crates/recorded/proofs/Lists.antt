@@ -1,8 +1,7 @@
 -- The prefixes of a record beside a prefix list: record by record the same texts. Assumes nothing.
-use Prim.Native.Nat.{ℕ, zero, suc, _+_, _-_, _≤_, _<_}
+use Prim.Native.Nat.{ℕ, _+_, _-_, _≤_, _<_}
 use native.Mathlib.Omega.{arith}
 use mathlib.Core.Path.{_≡_, refl, sym, ap, _∙_}
-use mathlib.Core.Bool.{true, false}
 use mathlib.Core.List.{List, [], _∷_, _++_, append-assoc, append-nil}
 use borrow.Author.Tests.{le-leb}
 use lib.ListN.{length, getD, take, drop, length-append, length-drop}
@@ -10,11 +9,11 @@ use lib.Seq.{drop-drop}
 use Rattle.meaning.specs.Bytes.{Text, each}
 use Rattle.meaning.specs.Number.{numberBytes, textBytes, recordBytes, took, no, readNumber, readBytes, readText}
 use Rattle.promises.proofs.Reading.{read-text, number-long}
-use Rattle.text.proofs.Rests.{rest-cons, rest-end}
+use Rattle.text.proofs.Rests.{rest-cons}
 use Rattle.number.specs.declared.Number.{Number}
-use Rattle.number.specs.declared.Number.the-variants.{Is, Malformed}
+use Rattle.number.specs.declared.Number.the-variants.{Is}
 use Rattle.number.specs.Reading.{numberAt}
-use Rattle.number.proofs.Answers.{number-stands, none-taken}
+use Rattle.number.proofs.Answers.{number-stands}
 use Rattle.parse.proofs.Parts.{part-of}
 use Rattle.recorded.specs.declared.field.Next.{Next}
 use Rattle.recorded.specs.declared.field.Next.the-variants.{At, Differs}

@@ -1,10 +1,8 @@
 // A recorded answer to one spec, held to ours, field by field. specs/Record.antt has the record's form.
 ghost use mathlib.Core.Path.{_≡_};
 ghost use mathlib.Core.Bool.{true};
-ghost use Prim.Native.Nat.{_+_, _*_, _/_, _%_, _<_, _≤_};
-ghost use lib.ListN.{length, drop};
-ghost use Rattle.meaning.specs.Spec.{readSpec};
-ghost use Rattle.recorded.specs.Record.{answerBytes, IsRecord};
+ghost use Prim.Native.Nat.{_+_, _*_, _/_, _<_};
+ghost use Rattle.recorded.specs.Record.{IsRecord};
 
 mod answer;
 pub mod field;

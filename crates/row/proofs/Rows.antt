@@ -15,26 +15,10 @@ use mir.Val.{Fits}
 use mir.Syntax.{w64}
 use Rattle.buffer.proofs.Threes.{three-first, three-second, three-third, three-put, three-end}
 use Rattle.number.proofs.Bytes.{bytes-few, size-one}
-use Rattle.parse.specs.declared.types.Side.{Side}
-use Rattle.matcher.specs.declared.types.Lead.{Lead}
 use Rattle.matcher.specs.declared.types.Made.{Made}
 use Rattle.matcher.specs.declared.types.Made.the-variants.{Absent, Name, Led, Filled}
 use Rattle.matcher.specs.Matching.{madeMeant}
 use Rattle.row.specs.Rows.{isAbsent, rowMeant, rowNumbers, presentBytes}
-
--- the arms of a `match` on a text
-module _ (m : Made) where
-  pub absent-is : m ≡ Absent → true ≡ isAbsent m
-  absent-is e = rw e
-
-  pub name-is : m ≡ Name → false ≡ isAbsent m
-  name-is e = rw e
-
-  pub led-is : (l : Lead) (s : Side) → m ≡ Led l s → false ≡ isAbsent m
-  led-is l s e = rw e
-
-  pub filled-is : (a b c d f g : ℕ) → m ≡ Filled a b c d f g → false ≡ isAbsent m
-  filled-is a b c d f g e = rw e
 
 -- a destination that is absent
 pub destination-none : (specs name : Text) (m : Made) → isAbsent m ≡ true → destinationBytes (madeMeant specs name m) ≡ numberBytes 0

@@ -1,8 +1,7 @@
 -- `compare::begins_by_eights` meets its contract: what is left decides as the whole does, and the last eight bytes have all of it at last.
 use mathlib.Core.Path.{_≡_, refl}
 use Prim.Native.Nat.{_-_}
-use native.Mathlib.Omega.{arith}
-use lib.ListN.{length, drop}
+use lib.ListN.{drop}
 use Rattle.meaning.specs.Bytes.{begins}
 use Rattle.compare.proofs.Blocks.{block-other, block-same, eights-all}
 use borrow.Author.Needs.{needs}

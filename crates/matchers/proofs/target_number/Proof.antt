@@ -1,5 +1,5 @@
 -- `matchers::target_number` meets its contract: a star stands within a spec list, and there are five leads.
-use Rattle.matchers.proofs.Told.{target-star-small, number-literal}
+use Rattle.matchers.proofs.Told.{target-star-small}
 use borrow.Author.Needs.{needs}
 use Rattle.matchers.proofs.target_number.Statement.{statement}
 use Rattle.matchers.proofs.target_number.Tie as tie

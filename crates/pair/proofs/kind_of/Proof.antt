@@ -1,5 +1,4 @@
 -- No item is an object, any other a name.
-use mathlib.Core.Path.{refl}
 use native.Mathlib.Omega.{arith}
 use Rattle.pair.proofs.Fields.{kind-of-name}
 use borrow.Author.Needs.{needs}

@@ -1,5 +1,5 @@
 -- Each direction has its filter.
-use Rattle.hits.proofs.Finding.{stops-back, stops-on, ready-within}
+use Rattle.hits.proofs.Finding.{stops-back, stops-on}
 use borrow.Author.Needs.{needs}
 use Rattle.hits.proofs.found.filter_of.Statement.{statement}
 use Rattle.hits.proofs.found.filter_of.Tie as tie

@@ -1,8 +1,6 @@
 -- What is measured and noted, and the names that are left, make the whole.
-use mathlib.Core.Path.{_≡_, refl}
-use Prim.Native.Nat.{_-_, _≤_}
+use Prim.Native.Nat.{_-_}
 use native.Mathlib.Omega.{arith}
-use lib.ListN.{length}
 use Rattle.exclude.specs.Negatives.{excludedBy}
 use Rattle.pair.specs.Pairs.{specOf}
 use Rattle.hits.proofs.Finding.{NamesFound, names-begin, names-next, names-fit, names-small, names-measured, names-noted, places-room, places-within, place-first, place-second, place-inside, place-few, place-short}

@@ -1,11 +1,10 @@
 -- What is measured and noted, and the specs that are left, make the whole.
-use mathlib.Core.Path.{_≡_, refl}
-use Prim.Native.Nat.{_-_, _≤_}
+use Prim.Native.Nat.{_-_}
 use native.Mathlib.Omega.{arith}
 use lib.ListN.{length}
 use Rattle.pair.specs.Pairs.{objectBytes}
 use Rattle.hits.specs.Hits.{specAt, hitIf, hitOf}
-use Rattle.hits.proofs.Finding.{RowFound, row-begin, row-next, row-measured, row-noted, row-long, objects-fit, objects-small, object-measured, object-noted, object-hit, matcher-room, matcher-ready, spec-few}
+use Rattle.hits.proofs.Finding.{RowFound, row-begin, row-next, row-measured, row-noted, objects-fit, objects-small, object-measured, object-noted, object-hit, matcher-room, matcher-ready, spec-few}
 use borrow.Author.Needs.{needs}
 use Rattle.hits.proofs.found.objects_found.Statement.{statement}
 use Rattle.hits.proofs.found.objects_found.Tie as tie

@@ -1,11 +1,9 @@
 -- What is measured and noted, and the specs that are left, make the whole.
-use mathlib.Core.Path.{_≡_, refl}
-use Prim.Native.Nat.{_-_, _≤_}
+use Prim.Native.Nat.{_-_}
 use native.Mathlib.Omega.{arith}
-use lib.ListN.{length}
 use Rattle.exclude.specs.Negatives.{excludedBy}
 use Rattle.hits.specs.Hits.{specBytes, specHits}
-use Rattle.hits.proofs.Finding.{RowFound, row-begin, row-next, row-measured, row-noted, row-long, specs-fit, specs-small}
+use Rattle.hits.proofs.Finding.{RowFound, row-begin, row-next, row-measured, row-noted, specs-fit, specs-small}
 use borrow.Author.Needs.{needs}
 use Rattle.hits.proofs.found.specs_found.Statement.{statement}
 use Rattle.hits.proofs.found.specs_found.Tie as tie

@@ -1,5 +1,5 @@
 -- What was measured fits and is written, or 17 is told.
-use Rattle.match_group.proofs.Entry.{listing-fits, list-short, list-fits, list-written}
+use Rattle.match_group.proofs.Entry.{list-short, list-fits, list-written}
 use denote.Ref.{now}
 use native.Mathlib.Omega.{arith}
 use Rattle.exclude.specs.Negatives.{excludedBy}
