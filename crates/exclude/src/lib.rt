@@ -18,6 +18,7 @@ use parse::types::is_negative;
 use parse::types::is_present;
 use pieces::pieces_glob;
 use pieces::pieces_same;
+use sides::wide;
 
 // What a negative spec looks for, as places in the spec list.
 pub enum Negative {
@@ -151,13 +152,6 @@ fn negative_from(kind: usize, at: usize, len: usize, star: usize) -> Negative
         2 => Negative::Literal { at, len },
         _ => Negative::Glob { at, len, star },
     }
-}
-
-// A number of a table.
-fn wide(n: u16) -> usize
-    ensures { λ r. ⌜ r ≡ n ⌝ }
-{
-    n as usize
 }
 
 // Negative number k of a table.

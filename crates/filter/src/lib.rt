@@ -11,6 +11,7 @@ use matcher::types::Matcher;
 use matcher::types::Needle;
 use matcher::types::Target;
 use parse::types::Side;
+use sides::wide;
 
 // Document 01's limit on a name's bytes.
 const NAME_BYTES: usize = 4096;
@@ -177,13 +178,6 @@ fn passes(f: Filter, items: &[u8], start: usize, n: usize) -> bool
         return frame_adds(n - f.least);
     }
     true
-}
-
-// A number of a table as a place.
-fn wide(n: u16) -> usize
-    ensures { λ r. ⌜ r ≡ n ⌝ }
-{
-    n as usize
 }
 
 // The number, `from` or after it, of the first of n names that passes a filter; n where none does.

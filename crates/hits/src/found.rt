@@ -18,18 +18,12 @@ use matcher::types::Matcher;
 use matchers::matcher_at;
 use pair::item_size;
 use pair::object_size;
+use sides::wide;
 
 // How many bytes rows take, and how many hits are noted; more than there is room for where one was not.
 pub struct Found {
     pub size: usize,
     pub hits: usize,
-}
-
-// A number of a table of places.
-pub(crate) fn wide(n: u16) -> usize
-    ensures { λ r. ⌜ r ≡ n ⌝ }
-{
-    n as usize
 }
 
 // The n bytes that begin at `at`.

@@ -9,10 +9,10 @@ ghost use Rattle.pair.specs.Asking.{Ready, Put};
 ghost use Rattle.hits.specs.Hits.{fieldStart, fieldSize, underSpec, hitBytes};
 ghost use Rattle.hits.specs.Noting.{PlacesIn, TableReady, AllGood};
 use super::found::part;
-use super::found::wide;
 use matcher::types::Matcher;
 use matchers::matcher_at;
 use pair::put_field;
+use sides::wide;
 
 // A hit that was noted.
 fn wider(hit: u32) -> usize

@@ -4,7 +4,7 @@ use borrow.Author.Needs.{needs}
 use Rattle.exclude.proofs.negative_at.Statement.{statement}
 use Rattle.exclude.proofs.negative_at.Tie as tie
 use Rattle.exclude.proofs.negative_from.Reads as negative-from-reads
-use Rattle.exclude.proofs.wide.Reads as wide-reads
+use Rattle.sides.proofs.wide.Reads as wide-reads
 
 mul-i : tie.Need-mul-i
 mul-i c = search needs
