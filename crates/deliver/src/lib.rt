@@ -10,13 +10,11 @@ ghost use Rattle.deliver.specs.Printed.{Lent, Prints};
 
 mod rows;
 
+use limits::PROGRAM_BYTES;
 use match_group::match_lhs;
 use number::Number;
 use print::line::put_refusal;
 use rows::print_rows;
-
-// Document 01's limit on the input and on the printed text.
-pub const PROGRAM_BYTES: usize = 65536;
 
 // Prints what a spec list and an item list give at the start of `out`, and answers how many bytes it printed; their rows are put together
 // in `rows`.

@@ -7,7 +7,8 @@ ghost use Rattle.meaning.specs.Deliveries.{rowLine};
 ghost use Rattle.buffer.specs.Splice.{splice};
 ghost use Rattle.row_list.specs.Rows.{rowMeant};
 ghost use Rattle.deliver.specs.Printed.{rowsIn, linesOf, printedRows, Prints, Listed, RowStands};
-use super::PROGRAM_BYTES;
+use limits::PROGRAM_BYTES;
+use limits::SPEC_COUNT;
 use list::cursor::Cursor;
 use parse::types::is_present;
 use print::line::header_size;
@@ -19,9 +20,6 @@ use refspec::side::text_of;
 use row_list::RowPlace;
 use row_list::RowStep;
 use row_list::next_row;
-
-// As many specs as a group can have.
-const SPECS: usize = 256;
 
 // How many bytes the line of a row has.
 fn row_size(list: &[u8], row: RowPlace) -> usize
@@ -73,7 +71,7 @@ fn rows_size(list: &[u8]) -> usize
     let mut c = Cursor::new();
     let mut size = 0;
     loop {
-        match next_row(c, list, SPECS) {
+        match next_row(c, list, SPEC_COUNT) {
             RowStep::Row { row, next } => {
                 size += row_size(list, row);
                 c = next;
@@ -96,7 +94,7 @@ fn put_rows(out: &mut [u8], at: usize, list: &[u8]) -> usize
     let mut c = Cursor::new();
     let mut i = at;
     loop {
-        match next_row(c, list, SPECS) {
+        match next_row(c, list, SPEC_COUNT) {
             RowStep::Row { row, next } => {
                 i = put_row(out, i, list, row);
                 c = next;

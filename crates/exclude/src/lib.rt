@@ -4,7 +4,7 @@ ghost use mathlib.Core.List.{_++_};
 ghost use Prim.Native.Nat.{ℕ, _+_, _*_, _<_, _≤_};
 ghost use lib.ListN.{length};
 ghost use Rattle.meaning.specs.Bytes.{same, present};
-ghost use Rattle.meaning.specs.Limits.{listBytes};
+ghost use Rattle.meaning.specs.Limits.{specListBytes};
 ghost use Rattle.parse.specs.Places.{partAt, Within, SidesWithin, specMeant};
 ghost use Rattle.exclude.specs.Negatives.{inPlaceOfStar, negativeMatches, NegativeWithin, negativeFrom, negativeAt, excludedBy};
 ghost use Rattle.exclude.specs.Making.{textNegative, sideNegative, isGlob, besides, negativeOf, Put, Added};
@@ -105,7 +105,7 @@ fn negative_of(specs: &[u8], r: RefSpec) -> Negative
 
 // Four numbers are put into a table as those of number k; the number after it.
 fn put_numbers(out: &mut [u16], k: usize, kind: usize, at: usize, len: usize, star: usize) -> usize
-    requires { ⌜ (4 * k + 4 ≤ length (now out)) × (kind ≤ 3) × (at ≤ listBytes) × (len ≤ listBytes) × (star ≤ listBytes) ⌝ }
+    requires { ⌜ (4 * k + 4 ≤ length (now out)) × (kind ≤ 3) × (at ≤ specListBytes) × (len ≤ specListBytes) × (star ≤ specListBytes) ⌝ }
     ensures { λ r. ⌜ (r ≡ k + 1) × Put (now (out .entry)) k (negativeFrom kind at len star) (now (out .exit)) ⌝ }
 {
     let i = 4 * k;
@@ -118,7 +118,7 @@ fn put_numbers(out: &mut [u16], k: usize, kind: usize, at: usize, len: usize, st
 
 // A negative is put into a table as number k; the number after it.
 fn put_negative(out: &mut [u16], k: usize, n: Negative) -> usize
-    requires { ⌜ (4 * k + 4 ≤ length (now out)) × NegativeWithin listBytes n ⌝ }
+    requires { ⌜ (4 * k + 4 ≤ length (now out)) × NegativeWithin specListBytes n ⌝ }
     ensures { λ r. ⌜ (r ≡ k + 1) × Put (now (out .entry)) k n (now (out .exit)) ⌝ }
 {
     match n {
@@ -131,7 +131,7 @@ fn put_negative(out: &mut [u16], k: usize, n: Negative) -> usize
 
 // A spec is added to the first k negatives of a table, if it is one; how many they are then.
 pub fn put_if_negative(specs: &[u8], r: RefSpec, k: usize, out: &mut [u16]) -> usize
-    requires { ⌜ SidesWithin (length (now specs)) r × (length (now specs) ≤ listBytes) × (4 * k + 4 ≤ length (now out)) ⌝ }
+    requires { ⌜ SidesWithin (length (now specs)) r × (length (now specs) ≤ specListBytes) × (4 * k + 4 ≤ length (now out)) ⌝ }
     ensures { λ n. ⌜ Added (now (specs .entry)) (specMeant (now (specs .entry)) r) (now (out .entry)) k (now (out .exit)) n ⌝ }
 {
     let m = r.mode;

@@ -10,7 +10,7 @@ use lib.Dec.{ltb}
 use lib.ListN.{length, take, drop, length-append, length-drop}
 use lib.Seq.{take-take}
 use Rattle.meaning.specs.Bytes.{Text, bytes, _and_, any, same, begins, ends}
-use Rattle.meaning.specs.Limits.{nameBytes, listBytes}
+use Rattle.meaning.specs.Limits.{nameBytes, specListBytes}
 use Rattle.meaning.specs.Prefix.{candidates}
 use Rattle.meaning.specs.Match.{miss, capture, pattern, Form}
 use Rattle.eights.specs.Word.{number}
@@ -255,7 +255,7 @@ module _ (s : Side) (f : Filter) where
   part-head is e = rw is e
 
 -- ---- places
-pub part-small : (s : Side) (at n len : ℕ) → s ≡ side.Part at n → Within len s → len ≤ listBytes → n ≤ listBytes
+pub part-small : (s : Side) (at n len : ℕ) → s ≡ side.Part at n → Within len s → len ≤ specListBytes → n ≤ specListBytes
 part-small s at n len is w l = let h : at + n ≤ len = rw is at w in omega arith
 
 module _ (s : Side) (at n star : ℕ) (is : s ≡ side.Part at n) (i : StarIn star s) where

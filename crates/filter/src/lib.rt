@@ -3,18 +3,16 @@ ghost use mathlib.Core.Path.{_≡_};
 ghost use mathlib.Core.Bool.{true, false};
 ghost use Prim.Native.Nat.{ℕ, _+_, _*_, _≤_, _<_};
 ghost use lib.ListN.{length, getD};
-ghost use Rattle.meaning.specs.Limits.{listBytes};
+ghost use Rattle.meaning.specs.Limits.{specListBytes};
 ghost use Rattle.parse.specs.Places.{partAt, Within};
 ghost use Rattle.matcher.specs.Matching.{MatcherWithin, StarIn};
 ghost use Rattle.filter.specs.Filters.{frameAdds, passes, FilterWithin, nameAt, sized, alike, noFilter, wholeFilter, startFilter, partFilter, StopsForward, StopsReverse};
+use limits::NAME_BYTES;
 use matcher::types::Matcher;
 use matcher::types::Needle;
 use matcher::types::Target;
 use parse::types::Side;
 use sides::wide;
-
-// Document 01's limit on a name's bytes.
-const NAME_BYTES: usize = 4096;
 
 // How many bytes the longest frame of a partial name adds: `refs/remotes/` and `/HEAD`.
 const LONGEST_FRAME: usize = 18;
@@ -97,7 +95,7 @@ fn start_filter(specs: &[u8], side: Side, star: usize) -> Filter
 
 // What may be a candidate of a partial name of n bytes.
 fn framed(n: usize) -> Filter
-    requires { ⌜ n ≤ listBytes ⌝ }
+    requires { ⌜ n ≤ specListBytes ⌝ }
     ensures { λ f. ⌜ f ≡ sized n (n + 18) true ⌝ }
 {
     sized(n, n + LONGEST_FRAME, true)
@@ -105,7 +103,7 @@ fn framed(n: usize) -> Filter
 
 // What may be a candidate of a side.
 fn part_filter(len: usize, side: Side) -> Filter
-    requires { ⌜ Within len side × (len ≤ listBytes) ⌝ }
+    requires { ⌜ Within len side × (len ≤ specListBytes) ⌝ }
     ensures { λ f. ⌜ f ≡ partFilter side ⌝ }
 {
     match side {
@@ -117,7 +115,7 @@ fn part_filter(len: usize, side: Side) -> Filter
 
 // The filter of a spec's forward rows.
 pub fn forward_filter(specs: &[u8], m: Matcher) -> Filter
-    requires { ⌜ MatcherWithin (length (now specs)) m × (length (now specs) ≤ listBytes) ⌝ }
+    requires { ⌜ MatcherWithin (length (now specs)) m × (length (now specs) ≤ specListBytes) ⌝ }
     ensures { λ f. ⌜ StopsForward (now (specs .entry)) m f ⌝ }
 {
     let src = m.src;
@@ -133,7 +131,7 @@ pub fn forward_filter(specs: &[u8], m: Matcher) -> Filter
 
 // The filter of a spec's reverse rows.
 pub fn reverse_filter(specs: &[u8], m: Matcher) -> Filter
-    requires { ⌜ MatcherWithin (length (now specs)) m × (length (now specs) ≤ listBytes) ⌝ }
+    requires { ⌜ MatcherWithin (length (now specs)) m × (length (now specs) ≤ specListBytes) ⌝ }
     ensures { λ f. ⌜ StopsReverse (now (specs .entry)) m f ⌝ }
 {
     let dst = m.dst;

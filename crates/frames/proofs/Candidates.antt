@@ -8,12 +8,11 @@ use mir.Syntax.{w64}
 use lib.Dec.{lit≤}
 use lib.ListN.{length, take, drop, getD, length-append, length-take}
 use Rattle.meaning.specs.Bytes.{Text, bytes}
-use Rattle.meaning.specs.Limits.{listBytes}
+use Rattle.meaning.specs.Limits.{specListBytes, largestNumber}
 use Rattle.meaning.specs.Number.{numberBytes, textBytes, recordBytes}
 use Rattle.meaning.specs.Prefix.{framed, candidates}
 use Rattle.buffer.specs.Splice.{splice}
 use Rattle.buffer.proofs.Writing.{Writing, writing-starts, writing-room, writing-more, written-place, written-whole}
-use Rattle.number.specs.Reading.{largestNumber}
 use Rattle.number.proofs.Bytes.{bytes-few}
 use Rattle.number.proofs.Texts.{text-size}
 use Rattle.frames.specs.Frames.{Framing, candidate, frameAt}
@@ -133,7 +132,7 @@ module _ (t : Text) (k : ℕ) (h : k < 6) (leading : Text) (n trailing : ℕ) (f
           candidate-ends = written-place d at (candidate k t) d₃ r [] all-put refl
 
 -- a candidate's length is a number
-pub candidate-number : (t : Text) (k : ℕ) → k < 6 → length t ≤ listBytes → (n : ℕ) → n ≡ length (candidate k t) → n ≤ largestNumber
+pub candidate-number : (t : Text) (k : ℕ) → k < 6 → length t ≤ specListBytes → (n : ℕ) → n ≡ length (candidate k t) → n ≤ largestNumber
 candidate-number t k h l n e = omega (arith, candidate-short t k h)
 
 -- a record has at most twenty-one bytes more than the name
@@ -141,7 +140,7 @@ pub record-short : (t : Text) (k : ℕ) → k < 6 → length (textBytes (candida
 record-short t k h = omega (arith, text-size (candidate k t) (length (candidate k t)) refl (length (numberBytes (length (candidate k t)))) refl, bytes-few (length (candidate k t)), candidate-short t k h)
 
 -- so a machine's number holds its size, however its number is written
-pub record-fits : (t : Text) (k : ℕ) → k < 6 → length t ≤ listBytes → (n : ℕ) → n ≡ length (candidate k t) → (m j : ℕ) → m ≡ length (numberBytes j) → Fits w64 (m + n)
+pub record-fits : (t : Text) (k : ℕ) → k < 6 → length t ≤ specListBytes → (n : ℕ) → n ≡ length (candidate k t) → (m j : ℕ) → m ≡ length (numberBytes j) → Fits w64 (m + n)
 record-fits t k h l n e m j g = omega (arith, bytes-few j, candidate-short t k h)
 
 -- the records are measured as far as number k
@@ -156,7 +155,7 @@ measured-starts t = record { count = omega arith; small = omega arith; whole = o
 
 module _ (t : Text) (size k : ℕ) (m : Measured t size k) where
   -- one more record
-  pub measured-more : k < 6 → length t ≤ listBytes → (r : ℕ) → r ≡ length (textBytes (candidate k t)) → Measured t (size + r) (k + 1)
+  pub measured-more : k < 6 → length t ≤ specListBytes → (r : ℕ) → r ≡ length (textBytes (candidate k t)) → Measured t (size + r) (k + 1)
   measured-more h l r e = record {
     count = omega arith;
     small = omega (arith, m .small, record-short t k h);
@@ -164,7 +163,7 @@ module _ (t : Text) (size k : ℕ) (m : Measured t size k) where
   }
 
   -- whose sum a machine's number holds
-  pub measured-fits : k < 6 → length t ≤ listBytes → (r : ℕ) → r ≡ length (textBytes (candidate k t)) → Fits w64 (size + r)
+  pub measured-fits : k < 6 → length t ≤ specListBytes → (r : ℕ) → r ≡ length (textBytes (candidate k t)) → Fits w64 (size + r)
   measured-fits h l r e = omega (arith, m .small, record-short t k h)
 
   -- after the sixth all is measured

@@ -4,7 +4,7 @@ ghost use Prim.Native.Nat.{_+_, _<_, _≤_};
 ghost use lib.Dec.{eqb};
 ghost use lib.ListN.{length, drop};
 ghost use Rattle.meaning.specs.Bytes.{_and_, any, same, begins};
-ghost use Rattle.meaning.specs.Limits.{listBytes};
+ghost use Rattle.meaning.specs.Limits.{specListBytes};
 ghost use Rattle.meaning.specs.Number.{textBytes, recordBytes};
 ghost use Rattle.meaning.specs.Prefix.{candidates};
 ghost use Rattle.buffer.specs.Splice.{splice};
@@ -39,7 +39,7 @@ fn frame_of(k: usize) -> Frame
 
 // How many bytes candidate number k of a name has.
 fn candidate_size(k: usize, name: &[u8]) -> usize
-    requires { ⌜ (k < 6) × (length (now name) ≤ listBytes) ⌝ }
+    requires { ⌜ (k < 6) × (length (now name) ≤ specListBytes) ⌝ }
     ensures { λ r. ⌜ r ≡ length (candidate k (now (name .entry))) ⌝ }
 {
     let f = frame_of(k);
@@ -63,7 +63,7 @@ pub fn put_candidate(out: &mut [u8], at: usize, k: usize, name: &[u8]) -> usize
 
 // How many bytes candidate number k has as a record of a prefix list.
 pub fn record_size(k: usize, name: &[u8]) -> usize
-    requires { ⌜ (k < 6) × (length (now name) ≤ listBytes) ⌝ }
+    requires { ⌜ (k < 6) × (length (now name) ≤ specListBytes) ⌝ }
     ensures { λ r. ⌜ r ≡ length (textBytes (candidate k (now (name .entry)))) ⌝ }
 {
     let n = candidate_size(k, name);
@@ -72,7 +72,7 @@ pub fn record_size(k: usize, name: &[u8]) -> usize
 
 // Candidate number k as a record of a prefix list, written from `at` on; the place after it.
 pub fn put_record(out: &mut [u8], at: usize, k: usize, name: &[u8]) -> usize
-    requires { ⌜ (k < 6) × (length (now name) ≤ listBytes) × (at + length (textBytes (candidate k (now name))) ≤ length (now out)) ⌝ }
+    requires { ⌜ (k < 6) × (length (now name) ≤ specListBytes) × (at + length (textBytes (candidate k (now name))) ≤ length (now out)) ⌝ }
     ensures { λ r. ⌜ (now (out .exit) ≡ splice (now (out .entry)) at (textBytes (candidate k (now (name .entry))))) × (r ≡ at + length (textBytes (candidate k (now (name .entry))))) ⌝ }
 {
     let n = candidate_size(k, name);
@@ -82,7 +82,7 @@ pub fn put_record(out: &mut [u8], at: usize, k: usize, name: &[u8]) -> usize
 
 // How many bytes the candidates of a name take as a prefix list.
 pub fn candidates_size(name: &[u8]) -> usize
-    requires { ⌜ length (now name) ≤ listBytes ⌝ }
+    requires { ⌜ length (now name) ≤ specListBytes ⌝ }
     ensures { λ r. ⌜ r ≡ length (recordBytes (candidates (now (name .entry)))) ⌝ }
 {
     let mut size = 0;
@@ -96,7 +96,7 @@ pub fn candidates_size(name: &[u8]) -> usize
 
 // The candidates of a name as a prefix list, written from `at` on; the place after it.
 pub fn put_candidates(out: &mut [u8], at: usize, name: &[u8]) -> usize
-    requires { ⌜ (length (now name) ≤ listBytes) × (at + length (recordBytes (candidates (now name))) ≤ length (now out)) ⌝ }
+    requires { ⌜ (length (now name) ≤ specListBytes) × (at + length (recordBytes (candidates (now name))) ≤ length (now out)) ⌝ }
     ensures { λ r. ⌜ (now (out .exit) ≡ splice (now (out .entry)) at (recordBytes (candidates (now (name .entry))))) × (r ≡ at + length (recordBytes (candidates (now (name .entry))))) ⌝ }
 {
     let mut i = at;

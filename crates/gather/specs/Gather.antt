@@ -5,7 +5,7 @@ use mathlib.Core.List.{List, [], _∷_, _++_}
 use lib.Dec.{eqb, leb, ltb}
 use lib.ListN.{length}
 use Rattle.meaning.specs.Bytes.{Text}
-use Rattle.meaning.specs.Limits.{listBytes, specCount, itemCount, nameBytes}
+use Rattle.meaning.specs.Limits.{specListBytes, specCount, itemCount, nameBytes}
 use Rattle.meaning.specs.Spec.{_else_then_, specRefusal}
 use Rattle.meaning.specs.Number.{textBytes, recordBytes}
 use Rattle.lines.specs.Line.{Held, nothing, unknown, fetch, push, name, heldIn}
@@ -26,7 +26,7 @@ linesOf (x ∷ s) = cond (eqb lineFeed x) ([] ∷ linesOf s) (beforeFirst x (lin
 
 -- 12 where a list of `size` bytes would be too long with a text more; 0: it is not
 unfoldable pub roomReason : ℕ → Text → ℕ
-roomReason size t = leb (size + length (textBytes t)) listBytes else 12 then 0
+roomReason size t = leb (size + length (textBytes t)) specListBytes else 12 then 0
 
 -- why a spec is refused that so many specs come before, in a list of `size` bytes; 0: it is not
 unfoldable pub specReason : ℕ → ℕ → Text → ℕ

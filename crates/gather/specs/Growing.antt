@@ -4,7 +4,7 @@ use mathlib.Core.Path.{_≡_}
 use mathlib.Core.List.{List, [], _∷_}
 use lib.ListN.{length}
 use Rattle.meaning.specs.Bytes.{Text}
-use Rattle.meaning.specs.Limits.{listBytes}
+use Rattle.meaning.specs.Limits.{specListBytes}
 use Rattle.meaning.specs.Number.{recordBytes}
 use Rattle.buffer.specs.Splice.{splice}
 use Rattle.lines.specs.Line.{Held}
@@ -14,8 +14,8 @@ use Rattle.gather.specs.Gather.{specReason, nameReason, reasonOf, specsI
 
 -- a list within its limit, and a buffer that a list at its limit fits
 pub record Room (size : ℕ) (buffer : Text) : Type 0 where
-  pub small : size ≤ listBytes
-  pub long : listBytes ≤ length buffer
+  pub small : size ≤ specListBytes
+  pub long : specListBytes ≤ length buffer
 
 -- nothing is added, for a reason or for none
 abbrev pub stopped : Lists → ℕ → Lists
@@ -30,7 +30,7 @@ unlessRefused (suc n) l = []
 pub record Grows (new : List Text) (count size : ℕ) (entry : Text) (countAfter sizeAfter : ℕ) (exit : Text) : Type 0 where
   pub count-is : countAfter ≡ count + length new
   pub size-is : sizeAfter ≡ size + length (recordBytes new)
-  pub small : sizeAfter ≤ listBytes
+  pub small : sizeAfter ≤ specListBytes
   pub puts : exit ≡ splice entry size (recordBytes new)
 
 -- a spec was added or refused, and the names stay
@@ -61,5 +61,5 @@ pub record Gathers (g : Gathering) (specs items specsAfter itemsAfter : Text) (r
   pub items-size : r .items ≡ length (recordBytes (g .names))
   pub specs-put : specsAfter ≡ splice specs 0 (recordBytes (g .specs))
   pub items-put : itemsAfter ≡ splice items 0 (recordBytes (g .names))
-  pub specs-small : r .specs ≤ listBytes
-  pub items-small : r .items ≤ listBytes
+  pub specs-small : r .specs ≤ specListBytes
+  pub items-small : r .items ≤ specListBytes

@@ -2,24 +2,19 @@
 ghost use mathlib.Core.Path.{_≡_};
 ghost use Prim.Native.Nat.{_+_, _≤_};
 ghost use lib.ListN.{length};
-ghost use Rattle.meaning.specs.Limits.{listBytes, programBytes};
+ghost use Rattle.meaning.specs.Limits.{specListBytes, programBytes};
 ghost use Rattle.meaning.specs.Number.{textBytes};
 ghost use Rattle.buffer.specs.Splice.{splice};
 ghost use Rattle.lines.specs.Line.{heldIn};
 ghost use Rattle.gather.specs.Gather.{roomReason, specReason, nameReason, gathered};
 ghost use Rattle.gather.specs.Growing.{stopped, Room, SpecAdds, NameAdds, LineAdds, Gathers};
+use limits::ITEM_COUNT;
+use limits::NAME_BYTES;
+use limits::SPEC_COUNT;
+use limits::SPEC_LIST_BYTES;
 use lines::Line;
 use lines::classify;
 use parse::Parsed;
-
-// Document 01's limits: the bytes of a spec list or an item list, the records of each, and the bytes of a name.
-const LIST_BYTES: usize = 65535;
-
-const SPECS: usize = 256;
-
-const NAMES: usize = 1024;
-
-const NAME_BYTES: usize = 4096;
 
 // Reasons of our own: only a fetch is listed; a line is none of the known kinds.
 pub const PUSH: u64 = 101;
@@ -47,11 +42,11 @@ struct Lists {
 
 // 12 where a list of `size` bytes has no room for a text.
 fn room_reason(size: usize, t: &[u8]) -> u64
-    requires { ⌜ (size ≤ listBytes) × (length (now t) ≤ programBytes) ⌝ }
+    requires { ⌜ (size ≤ specListBytes) × (length (now t) ≤ programBytes) ⌝ }
     ensures { λ r. ⌜ r ≡ roomReason size (now (t .entry)) ⌝ }
 {
     let n = t.len();
-    if LIST_BYTES < size + (number::size(n) + n) {
+    if SPEC_LIST_BYTES < size + (number::size(n) + n) {
         return 12;
     }
     0
@@ -59,10 +54,10 @@ fn room_reason(size: usize, t: &[u8]) -> u64
 
 // Why a spec is refused that so many come before, in a list of `size` bytes, or 0.
 fn spec_reason(count: usize, size: usize, t: &[u8]) -> u64
-    requires { ⌜ (size ≤ listBytes) × (length (now t) ≤ programBytes) ⌝ }
+    requires { ⌜ (size ≤ specListBytes) × (length (now t) ≤ programBytes) ⌝ }
     ensures { λ r. ⌜ r ≡ specReason count size (now (t .entry)) ⌝ }
 {
-    if SPECS <= count {
+    if SPEC_COUNT <= count {
         return 14;
     }
     match parse::parse(0, t) {
@@ -73,10 +68,10 @@ fn spec_reason(count: usize, size: usize, t: &[u8]) -> u64
 
 // Why a name is refused that so many come before, in a list of `size` bytes, or 0.
 fn name_reason(count: usize, size: usize, t: &[u8]) -> u64
-    requires { ⌜ (size ≤ listBytes) × (length (now t) ≤ programBytes) ⌝ }
+    requires { ⌜ (size ≤ specListBytes) × (length (now t) ≤ programBytes) ⌝ }
     ensures { λ r. ⌜ r ≡ nameReason count size (now (t .entry)) ⌝ }
 {
-    if NAMES <= count {
+    if ITEM_COUNT <= count {
         return 14;
     }
     if NAME_BYTES < t.len() {
@@ -162,7 +157,7 @@ fn add_line(line: &[u8], specs: &mut [u8], items: &mut [u8], so: Lists) -> Lists
 
 // The lists that the lines of a text give, written at the start of the buffers; where a line is refused, those of the lines before it.
 pub fn gather(input: &[u8], specs: &mut [u8], items: &mut [u8]) -> Gathered
-    requires { ⌜ (length (now input) ≤ programBytes) × (listBytes ≤ length (now specs)) × (listBytes ≤ length (now items)) ⌝ }
+    requires { ⌜ (length (now input) ≤ programBytes) × (specListBytes ≤ length (now specs)) × (specListBytes ≤ length (now items)) ⌝ }
     ensures { λ r. ⌜ Gathers (gathered (now (input .entry))) (now (specs .entry)) (now (items .entry)) (now (specs .exit)) (now (items .exit)) r ⌝ }
 {
     let mut at = 0;

@@ -1,6 +1,7 @@
 // Hexadecimal digits, and object ids.
 ghost use mathlib.Core.Path.{_≡_};
 ghost use Rattle.meaning.specs.Bytes.{every, hexDigit, lowerHexDigit, objectId};
+use limits::ID_DIGITS;
 
 // A hexadecimal digit of either case.
 fn hex_digit(b: u8) -> bool
@@ -54,7 +55,7 @@ pub fn all_lower_hex(s: &[u8]) -> bool
 pub fn object_id(s: &[u8]) -> bool
     ensures { λ r. ⌜ r ≡ objectId (now (s .entry)) ⌝ }
 {
-    if s.len() != 40 {
+    if s.len() != ID_DIGITS {
         return false;
     }
     all_hex(s)

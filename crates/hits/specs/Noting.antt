@@ -6,7 +6,7 @@ use mathlib.Core.List.{List, _++_}
 use mathlib.Core.Option.{none}
 use lib.ListN.{length, take, getD}
 use Rattle.meaning.specs.Bytes.{Text}
-use Rattle.meaning.specs.Limits.{nameBytes, listBytes, itemCount, specCount}
+use Rattle.meaning.specs.Limits.{nameBytes, itemListBytes, itemCount, specCount}
 use Rattle.matcher.specs.declared.types.Matcher.{Matcher}
 use Rattle.matchers.specs.Numbers.{matcherAt}
 use Rattle.filter.specs.declared.Filter.{Filter}
@@ -18,7 +18,7 @@ use Rattle.hits.specs.Hits.{hitBytes}
 -- the names of a list stand at the first n places, two numbers each
 pub record PlacesIn (items : Text) (places : List ℕ) (n : ℕ) : Type 0 where
   pub few : n ≤ itemCount
-  pub small : length items ≤ listBytes
+  pub small : length items ≤ itemListBytes
   pub room : 2048 ≤ length places
   pub within : (j : ℕ) → j < n → getD places (2 * j) 0 + getD places (2 * j + 1) 0 ≤ length items
   pub short : (j : ℕ) → j < n → getD places (2 * j + 1) 0 ≤ nameBytes

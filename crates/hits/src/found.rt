@@ -3,7 +3,7 @@
 ghost use mathlib.Core.Path.{_≡_};
 ghost use Prim.Native.Nat.{_+_, _*_, _≤_, _<_};
 ghost use lib.ListN.{length};
-ghost use Rattle.meaning.specs.Limits.{listBytes, nameBytes, itemCount, specCount};
+ghost use Rattle.meaning.specs.Limits.{itemListBytes, nameBytes, itemCount, specCount};
 ghost use Rattle.parse.specs.Places.{partAt};
 ghost use Rattle.exclude.specs.Negatives.{excludedBy};
 ghost use Rattle.pair.specs.Pairs.{specOf, itemBytes};
@@ -28,7 +28,7 @@ pub struct Found {
 
 // The n bytes that begin at `at`.
 pub(crate) fn part<'a>(items: &'a [u8], at: usize, n: usize) -> &'a [u8]
-    requires { ⌜ (at + n ≤ length (now items)) × (length (now items) ≤ listBytes) ⌝ }
+    requires { ⌜ (at + n ≤ length (now items)) × (length (now items) ≤ itemListBytes) ⌝ }
     ensures { λ r. ⌜ now r ≡ partAt (now (items .entry)) at n ⌝ }
 {
     let end = at + n;

@@ -12,7 +12,8 @@ use Rattle.meaning.specs.Number.{took, no, Reader, stepThen, readNumber, readBy
 use Rattle.meaning.specs.Rows.{Row, readDestination, readRow}
 use Rattle.number.specs.declared.Number.{Number}
 use Rattle.number.specs.declared.Number.the-variants.{Is, Malformed}
-use Rattle.number.specs.Reading.{numberAt, largestNumber}
+use Rattle.meaning.specs.Limits.{largestNumber}
+use Rattle.number.specs.Reading.{numberAt}
 use Rattle.number.proofs.Answers.{number-stands, number-none}
 use Rattle.number.proofs.Round.{read-small}
 use Rattle.keys.specs.declared.fields.RowFields.{RowFields}

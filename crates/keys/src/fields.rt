@@ -2,7 +2,7 @@
 ghost use mathlib.Core.Path.{_≡_};
 ghost use Prim.Native.Nat.{_+_, _≤_};
 ghost use lib.ListN.{length, drop};
-ghost use Rattle.number.specs.Reading.{largestNumber};
+ghost use Rattle.meaning.specs.Limits.{largestNumber};
 ghost use Rattle.keys.specs.Keys.{stretch, rowOr, rowAt, Finds};
 ghost use Rattle.keys.specs.Stages.{afterNumber, afterSource, afterLength, afterKind, afterSpec, afterItem};
 use number::Number;

@@ -4,7 +4,7 @@ use mathlib.Core.Path.{_≡_}
 use mathlib.Core.List.{List, []}
 use lib.ListN.{length, getD}
 use Rattle.meaning.specs.Bytes.{Text}
-use Rattle.meaning.specs.Limits.{nameBytes, listBytes, itemCount}
+use Rattle.meaning.specs.Limits.{nameBytes, itemListBytes, itemCount}
 use Rattle.meaning.specs.Spec.{Answer, accepted, refused}
 use Rattle.meaning.specs.Lists.{readItems}
 use Rattle.parse.specs.Places.{partAt}
@@ -20,7 +20,7 @@ namesOf (refused n r) = []
 pub record PlacesOf (items : Text) (places : List ℕ) (n : ℕ) : Type 0 where
   pub all : n ≡ length (namesOf (readItems items))
   pub few : n ≤ itemCount
-  pub small : length items ≤ listBytes
+  pub small : length items ≤ itemListBytes
   pub room : 2048 ≤ length places
   pub is : (j : ℕ) → j < n → getD (namesOf (readItems items)) j [] ≡ partAt items (getD places (2 * j) 0) (getD places (2 * j + 1) 0)
   pub within : (j : ℕ) → j < n → getD places (2 * j) 0 + getD places (2 * j + 1) 0 ≤ length items

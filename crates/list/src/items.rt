@@ -4,20 +4,16 @@ ghost use mathlib.Core.Bool.{cond};
 ghost use Prim.Native.Nat.{_≤_};
 ghost use lib.Dec.{leb};
 ghost use lib.ListN.{length};
-ghost use Rattle.meaning.specs.Limits.{listBytes, nameBytes};
+ghost use Rattle.meaning.specs.Limits.{itemListBytes, nameBytes};
 ghost use Rattle.meaning.specs.Lists.{itemRecord, readItems};
 ghost use Rattle.promises.specs.Facts.{records};
 ghost use Rattle.list.specs.declared.cursor.Step.the-variants.{Record, Refused};
 ghost use Rattle.list.specs.Checked.{checked, itemAt};
 use super::cursor::Cursor;
 use super::cursor::Step;
-
-// Document 01's limits on an item list: its bytes, its records, and the bytes of a name.
-pub(crate) const LIST_BYTES: usize = 65535;
-
-const ITEMS: usize = 1024;
-
-const NAME_BYTES: usize = 4096;
+use limits::ITEM_COUNT;
+use limits::ITEM_LIST_BYTES;
+use limits::NAME_BYTES;
 
 // A list that was read: a refusal's number or 0, the number of the record that it carries, and how many records were accepted. A field
 // without a meaning is 0.
@@ -45,7 +41,7 @@ pub(crate) fn item_at(list: &[u8], c: Cursor, count: usize) -> Step
     if list.len() <= at {
         return Step::End;
     }
-    if ITEMS <= count {
+    if ITEM_COUNT <= count {
         return Step::Refused(14);
     }
     match c.next(list) {
@@ -57,7 +53,7 @@ pub(crate) fn item_at(list: &[u8], c: Cursor, count: usize) -> Step
 
 // The records of an item list, one after the other.
 fn each_item(list: &[u8]) -> Checked
-    requires { ⌜ length (now list) ≤ listBytes ⌝ }
+    requires { ⌜ length (now list) ≤ itemListBytes ⌝ }
     ensures { λ r. ⌜ r ≡ checked (records itemRecord 0 (now (list .entry))) ⌝ }
 {
     let mut c = Cursor::new();
@@ -94,7 +90,7 @@ fn each_item(list: &[u8]) -> Checked
 pub fn read_items(list: &[u8]) -> Checked
     ensures { λ r. ⌜ r ≡ checked (readItems (now (list .entry))) ⌝ }
 {
-    if LIST_BYTES < list.len() {
+    if ITEM_LIST_BYTES < list.len() {
         return Checked {
             refusal: 12,
             record: 0,

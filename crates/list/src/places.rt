@@ -2,17 +2,17 @@
 ghost use mathlib.Core.Path.{_≡_};
 ghost use Prim.Native.Nat.{_+_, _*_, _≤_, _<_};
 ghost use lib.ListN.{length, set};
-ghost use Rattle.meaning.specs.Limits.{listBytes, itemCount};
+ghost use Rattle.meaning.specs.Limits.{itemListBytes, itemCount};
 ghost use Rattle.list.specs.Places.{PlacesRead};
 use super::cursor::Cursor;
 use super::cursor::Step;
 use super::items::Checked;
-use super::items::LIST_BYTES;
 use super::items::item_at;
+use limits::ITEM_LIST_BYTES;
 
 // Notes where name number n begins, and how many bytes it has.
 fn put_place(places: &mut [u16], n: usize, start: usize, len: usize)
-    requires { ⌜ (n < itemCount) × (2048 ≤ length (now places)) × (start ≤ listBytes) × (len ≤ listBytes) ⌝ }
+    requires { ⌜ (n < itemCount) × (2048 ≤ length (now places)) × (start ≤ itemListBytes) × (len ≤ itemListBytes) ⌝ }
     ensures { λ _. ⌜ now (places .exit) ≡ set (set (now (places .entry)) (2 * n) start) (2 * n + 1) len ⌝ }
 {
     places[2 * n] = start as u16;
@@ -21,7 +21,7 @@ fn put_place(places: &mut [u16], n: usize, start: usize, len: usize)
 
 // The records of an item list, one after the other, each noted.
 fn each_place(list: &[u8], places: &mut [u16]) -> Checked
-    requires { ⌜ (length (now list) ≤ listBytes) × (2048 ≤ length (now places)) ⌝ }
+    requires { ⌜ (length (now list) ≤ itemListBytes) × (2048 ≤ length (now places)) ⌝ }
     ensures { λ r. ⌜ PlacesRead (now (list .entry)) (now (places .entry)) (now (places .exit)) r ⌝ }
 {
     let mut c = Cursor::new();
@@ -56,7 +56,7 @@ pub fn read_places(list: &[u8], places: &mut [u16]) -> Checked
     requires { ⌜ 2048 ≤ length (now places) ⌝ }
     ensures { λ r. ⌜ PlacesRead (now (list .entry)) (now (places .entry)) (now (places .exit)) r ⌝ }
 {
-    if LIST_BYTES < list.len() {
+    if ITEM_LIST_BYTES < list.len() {
         return Checked {
             refusal: 12,
             record: 0,

@@ -9,7 +9,7 @@ use mir.Syntax.{w64}
 use lib.ListN.{length, length-append}
 use lib.Seq.{take-all}
 use Rattle.meaning.specs.Bytes.{Text, bytes, orEmpty, lower}
-use Rattle.meaning.specs.Limits.{listBytes, nameBytes}
+use Rattle.meaning.specs.Limits.{specListBytes, nameBytes}
 use Rattle.buffer.specs.Splice.{splice}
 use Rattle.buffer.proofs.Splices.{splice-none}
 use Rattle.buffer.proofs.Pairs.{pair-second}
@@ -56,7 +56,7 @@ module _ (specs : Text) (l : Lead) (s : Side) (u : Text) (eu : u ≡ sideText sp
   pub led-size : n + length u ≡ length (ledText l (sideText specs s))
   led-size = rw (eu, en) (sym (led-length l (sideText specs s)))
 
-  module _ (w : Within (length specs) s) (few : length specs ≤ listBytes) where
+  module _ (w : Within (length specs) s) (few : length specs ≤ specListBytes) where
     -- which are not many
     pub led-most : n + length u ≤ 200000
     led-most = omega (arith, ap length eu, lead-short l, side-short specs s w)
@@ -100,13 +100,13 @@ module _ (specs name : Text) (m : Made) where
       inside : FilledWithin (length specs) (length name) start a from b end c
       inside = made-filled-within (length specs) (length name) w
 
-      pub start-few : length specs ≤ listBytes → a ≤ 65535
+      pub start-few : length specs ≤ specListBytes → a ≤ 65535
       start-few h = omega (arith, inside .start-within)
 
       pub capture-few : length name ≤ nameBytes → b ≤ 4096
       capture-few h = omega (arith, inside .capture-within)
 
-      pub end-few : length specs ≤ listBytes → c ≤ 65535
+      pub end-few : length specs ≤ specListBytes → c ≤ 65535
       end-few h = omega (arith, inside .end-within)
 
       -- it has the bytes of its three parts

@@ -4,7 +4,7 @@ ghost use mathlib.Core.List.{_++_};
 ghost use Prim.Native.Nat.{_+_, _≤_};
 ghost use lib.ListN.{length};
 ghost use Rattle.meaning.specs.Bytes.{orEmpty, lower};
-ghost use Rattle.meaning.specs.Limits.{listBytes, nameBytes};
+ghost use Rattle.meaning.specs.Limits.{specListBytes, nameBytes};
 ghost use Rattle.buffer.specs.Splice.{splice};
 ghost use Rattle.parse.specs.Places.{partAt, Within};
 ghost use Rattle.refspec.specs.Instructions.{sideText};
@@ -30,7 +30,7 @@ fn lead_size(lead: Lead) -> usize
 
 // How many bytes a side has that is led.
 fn led_size(specs: &[u8], lead: Lead, side: Side) -> usize
-    requires { ⌜ Within (length (now specs)) side × (length (now specs) ≤ listBytes) ⌝ }
+    requires { ⌜ Within (length (now specs)) side × (length (now specs) ≤ specListBytes) ⌝ }
     ensures { λ r. ⌜ (r ≡ length (ledText lead (sideText (now (specs .entry)) side))) × (r ≤ 200000) ⌝ }
 {
     let t = text_of(specs, b"HEAD", side);
@@ -47,7 +47,7 @@ fn parts_size(a: usize, b: usize, c: usize) -> usize
 
 // How many bytes a text has that a match makes; an absent one has none.
 pub fn made_size(specs: &[u8], name: &[u8], made: Made) -> usize
-    requires { ⌜ MadeWithin (length (now specs)) (length (now name)) made × (length (now specs) ≤ listBytes) × (length (now name) ≤ nameBytes) ⌝ }
+    requires { ⌜ MadeWithin (length (now specs)) (length (now name)) made × (length (now specs) ≤ specListBytes) × (length (now name) ≤ nameBytes) ⌝ }
     ensures { λ r. ⌜ (r ≡ length (orEmpty (madeMeant (now (specs .entry)) (now (name .entry)) made))) × (r ≤ 200000) ⌝ }
 {
     match made {

@@ -11,6 +11,7 @@ ghost use Rattle.match_group.specs.Listing.{listing, listed};
 mod group;
 
 use group::list_group;
+use limits::SPEC_COUNT;
 use list::places::read_places;
 use noted::note_group;
 use spec_list::read_specs;
@@ -35,7 +36,7 @@ fn refused(refusal: u64, record: u64) -> Written
 fn list_in(
     back: bool,
     specs: &[u8],
-    records: [SpecRecord; 256],
+    records: [SpecRecord; SPEC_COUNT],
     n: usize,
     items: &[u8],
     table: &mut [u16],
@@ -71,7 +72,7 @@ fn list_in(
 fn list_few(
     back: bool,
     specs: &[u8],
-    records: [SpecRecord; 256],
+    records: [SpecRecord; SPEC_COUNT],
     n: usize,
     items: &[u8],
     out: &mut [u8],
@@ -99,7 +100,7 @@ fn list_few(
 fn list_many(
     back: bool,
     specs: &[u8],
-    records: [SpecRecord; 256],
+    records: [SpecRecord; SPEC_COUNT],
     n: usize,
     items: &[u8],
     out: &mut [u8],

@@ -2,7 +2,7 @@
 use Prim.Native.Nat.{ℕ, zero, suc, _≤_, _<_}
 use native.Mathlib.Omega.{arith}
 use mathlib.Core.Path.{_≡_, refl}
-use Rattle.meaning.specs.Limits.{listBytes}
+use Rattle.meaning.specs.Limits.{specListBytes}
 use Rattle.parse.specs.declared.types.Side.{Side}
 use Rattle.parse.specs.declared.types.Side.the-variants as side
 use Rattle.parse.specs.Places.{Within}
@@ -81,26 +81,26 @@ pub number-literal : (t : Target) (l : Lead) (r : ℕ) → t ≡ target.Literal 
 number-literal t l r is e = rw is e
 
 -- ---- small numbers
-pub needle-star-small : (l : Needle) (star : ℕ) → l ≡ needle.Glob star → NeedleStar listBytes l → star ≤ listBytes
-needle-star-small l star is w = let h : star < listBytes = rw is at w in omega arith
+pub needle-star-small : (l : Needle) (star : ℕ) → l ≡ needle.Glob star → NeedleStar specListBytes l → star ≤ specListBytes
+needle-star-small l star is w = let h : star < specListBytes = rw is at w in omega arith
 
-pub target-star-small : (t : Target) (star : ℕ) → t ≡ target.Pattern star → TargetStar listBytes t → star ≤ listBytes
-target-star-small t star is w = let h : star < listBytes = rw is at w in omega arith
+pub target-star-small : (t : Target) (star : ℕ) → t ≡ target.Pattern star → TargetStar specListBytes t → star ≤ specListBytes
+target-star-small t star is w = let h : star < specListBytes = rw is at w in omega arith
 
-star-small : (star : ℕ) (s : Side) → Within listBytes s → StarIn star s → star < listBytes
+star-small : (star : ℕ) (s : Side) → Within specListBytes s → StarIn star s → star < specListBytes
 star-small star side.Absent w h = absurd h
 star-small star (side.Part at n) w h = omega arith
 star-small star side.Head w h = absurd h
 
-module _ (s : Side) (w : Within listBytes s) where
-  pub needle-small : (l : Needle) → NeedleWithin s l → NeedleStar listBytes l
+module _ (s : Side) (w : Within specListBytes s) where
+  pub needle-small : (l : Needle) → NeedleWithin s l → NeedleStar specListBytes l
   needle-small needle.Absent h = tt
   needle-small (needle.Glob star) h = star-small star s w h
   needle-small needle.FullName h = tt
   needle-small needle.Object h = tt
   needle-small needle.PartialName h = tt
 
-  pub target-small : (t : Target) → TargetWithin s t → TargetStar listBytes t
+  pub target-small : (t : Target) → TargetWithin s t → TargetStar specListBytes t
   target-small target.Absent h = tt
   target-small (target.Pattern star) h = star-small star s w h
   target-small (target.Literal l) h = tt

@@ -3,7 +3,7 @@ ghost use mathlib.Core.Path.{_≡_};
 ghost use mathlib.Core.List.{[], _∷_};
 ghost use Prim.Native.Nat.{_+_, _*_, _≤_};
 ghost use lib.ListN.{length};
-ghost use Rattle.meaning.specs.Limits.{listBytes};
+ghost use Rattle.meaning.specs.Limits.{specListBytes};
 ghost use Rattle.buffer.specs.Splice.{splice};
 ghost use Rattle.parse.specs.Places.{Within};
 ghost use Rattle.matcher.specs.Matching.{MatcherWithin};
@@ -36,7 +36,7 @@ fn needle_kind(lhs: Needle) -> u16
 
 // Where the star of a needle stands.
 fn needle_star(lhs: Needle) -> u16
-    requires { ⌜ NeedleStar listBytes lhs ⌝ }
+    requires { ⌜ NeedleStar specListBytes lhs ⌝ }
     ensures { λ r. ⌜ r ≡ needleStar lhs ⌝ }
 {
     match lhs {
@@ -74,7 +74,7 @@ fn target_kind(rhs: Target) -> u16
 
 // Where the star of a target stands, or how it is led.
 fn target_number(rhs: Target) -> u16
-    requires { ⌜ TargetStar listBytes rhs ⌝ }
+    requires { ⌜ TargetStar specListBytes rhs ⌝ }
     ensures { λ r. ⌜ r ≡ targetNumber rhs ⌝ }
 {
     match rhs {
@@ -98,7 +98,7 @@ fn put_five(table: &mut [u16], i: usize, a: u16, b: u16, c: u16, d: u16, e: u16)
 
 // The numbers of a source are put into a table from i on.
 fn put_source(table: &mut [u16], i: usize, src: Side, lhs: Needle)
-    requires { ⌜ (i + 5 ≤ length (now table)) × Within listBytes src × NeedleStar listBytes lhs ⌝ }
+    requires { ⌜ (i + 5 ≤ length (now table)) × Within specListBytes src × NeedleStar specListBytes lhs ⌝ }
     ensures { λ r. ⌜ now (table .exit) ≡ splice (now (table .entry)) i (sourceNumbers src lhs) ⌝ }
 {
     put_five(
@@ -114,7 +114,7 @@ fn put_source(table: &mut [u16], i: usize, src: Side, lhs: Needle)
 
 // The numbers of a destination are put into a table from i on.
 fn put_destination(table: &mut [u16], i: usize, dst: Side, rhs: Target)
-    requires { ⌜ (i + 5 ≤ length (now table)) × Within listBytes dst × TargetStar listBytes rhs ⌝ }
+    requires { ⌜ (i + 5 ≤ length (now table)) × Within specListBytes dst × TargetStar specListBytes rhs ⌝ }
     ensures { λ r. ⌜ now (table .exit) ≡ splice (now (table .entry)) i (destinationNumbers dst rhs) ⌝ }
 {
     put_five(
@@ -130,7 +130,7 @@ fn put_destination(table: &mut [u16], i: usize, dst: Side, rhs: Target)
 
 // A matcher is put into a table as number k.
 pub fn put_matcher(table: &mut [u16], k: usize, m: Matcher)
-    requires { ⌜ MatcherWithin listBytes m × (10 * k + 10 ≤ length (now table)) ⌝ }
+    requires { ⌜ MatcherWithin specListBytes m × (10 * k + 10 ≤ length (now table)) ⌝ }
     ensures { λ r. ⌜ Put (now (table .entry)) k m (now (table .exit)) ⌝ }
 {
     let i = 10 * k;

@@ -7,7 +7,7 @@ use mathlib.Core.Option.{none, some}
 use lib.Dec.{leb, ltb}
 use lib.ListN.{length}
 use Rattle.meaning.specs.Bytes.{Text}
-use Rattle.meaning.specs.Limits.{listBytes, specCount, itemCount, nameBytes}
+use Rattle.meaning.specs.Limits.{specListBytes, itemListBytes, specCount, itemCount, nameBytes}
 use Rattle.meaning.specs.Spec.{Answer, accepted, refused, Spec, readSpec}
 use Rattle.meaning.specs.Number.{Step, took, no, Reader, _>>=_, give, need, readText}
 
@@ -48,8 +48,8 @@ itemRecord i = need 14 (ltb i itemCount) (readText >>= λ t. need 15 (leb (lengt
 
 -- a spec list, after the question of the operation
 unfoldable pub readSpecs : ℕ → Text → Answer (List Spec)
-readSpecs op s = cond (leb op 1) (readList listBytes (specRecord op) s) (refused 18 none)
+readSpecs op s = cond (leb op 1) (readList specListBytes (specRecord op) s) (refused 18 none)
 
 -- an item list
 unfoldable pub readItems : Text → Answer (List Text)
-readItems s = readList listBytes itemRecord s
+readItems s = readList itemListBytes itemRecord s

@@ -6,7 +6,7 @@ use mathlib.Core.Option.{Option, none, some}
 use lib.Dec.{eqb, leb}
 use lib.ListN.{length}
 use Rattle.meaning.specs.Bytes.{Text, bytes, star, plus, colon, caret, _and_, _or_, agree, every, empty, same, hasByte, count, given, present, absent, ifGiven, hexDigit}
-use Rattle.meaning.specs.Limits.{specBytes}
+use Rattle.meaning.specs.Limits.{specBytes, hashDigits}
 use Rattle.meaning.specs.Names.{sidePasses}
 
 -- what a call answers: a value, or a refusal's number with the record's number where it carries one
@@ -136,7 +136,7 @@ exempt op s = push op and present (s .destination) and not (hasStar (s .source))
 
 -- forty or more bytes, all hexadecimal digits
 unfoldable pub hashLike : Text → Bool
-hashLike t = leb 40 (length t) and every hexDigit t
+hashLike t = leb hashDigits (length t) and every hexDigit t
 
 -- question 11
 unfoldable pub notHashLike : Text → Bool

@@ -5,7 +5,7 @@ use mathlib.Core.List.{List}
 use mathlib.Core.Option.{some}
 use lib.ListN.{length, take, getD}
 use Rattle.meaning.specs.Bytes.{Text}
-use Rattle.meaning.specs.Limits.{listBytes, specCount, specBytes}
+use Rattle.meaning.specs.Limits.{specListBytes, specCount, specBytes}
 use Rattle.meaning.specs.Spec.{Spec}
 use Rattle.matchers.specs.Numbers.{matcherAt}
 use Rattle.spec_list.specs.declared.record.SpecRecord.{SpecRecord}
@@ -24,7 +24,7 @@ pub record Grouped (specs : Text) (records : List SpecRecord) (n : ℕ) : Type 0
 pub record TableIs (specs : Text) (table negatives : List ℕ) (n count : ℕ) (group : List Spec) : Type 0 where
   pub count-is : n ≡ length group
   pub few : n ≤ specCount
-  pub specs-short : length specs ≤ listBytes
+  pub specs-short : length specs ≤ specListBytes
   pub stand : (i : ℕ) → i < length group → (d : Spec) → Stands specs (getD group i d) (matcherAt table i)
   pub short : (i : ℕ) → i < length group → (d : Spec) (t : Text) → (getD group i d) .source ≡ some t → length t ≤ specBytes
   pub exclude : Negatives specs group negatives count

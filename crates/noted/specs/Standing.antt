@@ -5,7 +5,7 @@ use mathlib.Core.Bool.{true, false}
 use mathlib.Core.List.{List}
 use lib.ListN.{length}
 use Rattle.meaning.specs.Bytes.{Text}
-use Rattle.meaning.specs.Limits.{listBytes, specCount}
+use Rattle.meaning.specs.Limits.{specListBytes, specCount}
 use Rattle.meaning.specs.Spec.{Spec, isNegative}
 use Rattle.parse.specs.Places.{SidesWithin}
 use Rattle.matcher.specs.declared.types.Matcher.{Matcher}
@@ -29,7 +29,7 @@ pub record NotedAt (specs : Text) (s : Spec) (before : List ℕ) (i : ℕ) (afte
 
 -- records that can be noted
 pub record Notable (specs : Text) (records : List SpecRecord) : Type 0 where
-  pub specs-short : length specs ≤ listBytes
+  pub specs-short : length specs ≤ specListBytes
   pub few : length records ≤ specCount
   pub sides : (i : ℕ) → i < length records → SidesWithin (length specs) (specFrom (specAt records i))
 

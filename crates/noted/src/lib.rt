@@ -1,7 +1,7 @@
 // The specs of a group noted once for all names: their matchers as flat numbers, and the negatives apart.
 ghost use Prim.Native.Nat.{_+_, _*_, _≤_};
 ghost use lib.ListN.{length, take};
-ghost use Rattle.meaning.specs.Limits.{listBytes};
+ghost use Rattle.meaning.specs.Limits.{specListBytes};
 ghost use Rattle.parse.specs.Places.{specMeant, SidesWithin};
 ghost use Rattle.matcher.specs.Matching.{MatcherWithin};
 ghost use Rattle.spec_list.specs.Table.{specFrom};
@@ -9,6 +9,7 @@ ghost use Rattle.spec_list.specs.Group.{recordMeant};
 ghost use Rattle.exclude.specs.Making.{Added};
 ghost use Rattle.noted.specs.Standing.{Stands, NotedAt, Notable, NotedAll};
 use exclude::put_if_negative;
+use limits::SPEC_COUNT;
 use matcher::matcher;
 use matcher::types::Matcher;
 use matchers::no_matcher;
@@ -21,8 +22,8 @@ use spec_list::table::spec_at;
 
 // What stands for a spec in a table.
 fn matcher_for(specs: &[u8], r: RefSpec) -> Matcher
-    requires { ⌜ SidesWithin (length (now specs)) r × (length (now specs) ≤ listBytes) ⌝ }
-    ensures { λ m. ⌜ Stands (now (specs .entry)) (specMeant (now (specs .entry)) r) m × MatcherWithin listBytes m ⌝ }
+    requires { ⌜ SidesWithin (length (now specs)) r × (length (now specs) ≤ specListBytes) ⌝ }
+    ensures { λ m. ⌜ Stands (now (specs .entry)) (specMeant (now (specs .entry)) r) m × MatcherWithin specListBytes m ⌝ }
 {
     let mode = r.mode;
     if is_negative(mode) {
@@ -40,7 +41,7 @@ pub fn note(
     negatives: &mut [u16],
     k: usize,
 ) -> usize
-    requires { ⌜ SidesWithin (length (now specs)) (specFrom q) × (length (now specs) ≤ listBytes) × (10 * i + 10 ≤ length (now table)) × (4 * k + 4 ≤ length (now negatives)) ⌝ }
+    requires { ⌜ SidesWithin (length (now specs)) (specFrom q) × (length (now specs) ≤ specListBytes) × (10 * i + 10 ≤ length (now table)) × (4 * k + 4 ≤ length (now negatives)) ⌝ }
     ensures { λ n. ⌜ NotedAt (now (specs .entry)) (recordMeant (now (specs .entry)) q) (now (table .entry)) i (now (table .exit)) × Added (now (specs .entry)) (recordMeant (now (specs .entry)) q) (now (negatives .entry)) k (now (negatives .exit)) n ⌝ }
 {
     let r = spec_from(q);
@@ -71,7 +72,7 @@ fn note_specs(
 // Notes the specs of a group, the first n records of a table, which are lent; how many negatives there are.
 pub fn note_group(
     specs: &[u8],
-    records: [SpecRecord; 256],
+    records: [SpecRecord; SPEC_COUNT],
     n: usize,
     table: &mut [u16],
     negatives: &mut [u16],

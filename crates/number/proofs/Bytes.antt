@@ -9,7 +9,7 @@ use lib.Dec.{ltb}
 use lib.ListN.{length}
 use Rattle.meaning.specs.Bytes.{Text}
 use Rattle.meaning.specs.Number.{groups, numberBytes}
-use Rattle.number.specs.Reading.{largestNumber}
+use Rattle.meaning.specs.Limits.{largestNumber}
 
 -- below 128 a number is its own byte
 pub bytes-last : (n : ℕ) → n < 128 → numberBytes n ≡ n ∷ []

@@ -9,7 +9,8 @@ use lib.Dec.{eqb, ltb}
 use Rattle.meaning.specs.Bytes.{Text}
 use Rattle.meaning.specs.Number.{groups, numberBytes, Step, took, no, stepThen, groupBefore, readGroups, readNumber}
 use Rattle.promises.proofs.Reading.{read-number}
-use Rattle.number.specs.Reading.{largestNumber, Octets}
+use Rattle.meaning.specs.Limits.{largestNumber}
+use Rattle.number.specs.Reading.{Octets}
 use Rattle.number.proofs.Answers.{none-taken}
 
 -- the bytes of a number, whatever follows them, are read as it

@@ -10,7 +10,7 @@ use Rattle.promises.proofs.Reading.{number-long}
 use Rattle.buffer.specs.Splice.{splice}
 use Rattle.buffer.proofs.Splices.{splice-byte}
 use Rattle.buffer.proofs.Writing.{Writing, writing-starts, writing-more, written-place, written-whole}
-use Rattle.number.specs.Reading.{largestNumber}
+use Rattle.meaning.specs.Limits.{largestNumber}
 use Rattle.number.proofs.Bytes.{bytes-last, bytes-more}
 
 -- n is being written into d from `at` on; at i the bytes of `rest` are left

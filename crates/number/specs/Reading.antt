@@ -6,10 +6,6 @@ use Rattle.meaning.specs.Number.{Step, took, no, Reader, _>>=_, groupBefore, re
 use Rattle.number.specs.declared.Number.{Number}
 use Rattle.number.specs.declared.Number.the-variants.{Is, Malformed}
 
--- the largest number of three groups
-abbrev pub largestNumber : ℕ
-largestNumber = 2097151
-
 -- every byte is below 256, as in every slice of bytes
 abbrev pub Octets : Text → Type 0
 Octets s = (i : ℕ) → getD s i 0 < 256

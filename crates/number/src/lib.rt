@@ -4,22 +4,13 @@ ghost use Prim.Native.Nat.{_+_, _<_, _≤_, _/_, _%_};
 ghost use lib.ListN.{length};
 ghost use Rattle.meaning.specs.Number.{numberBytes};
 ghost use Rattle.buffer.specs.Splice.{splice};
-ghost use Rattle.number.specs.Reading.{largestNumber, foundAt, numberAt, afterOne, afterTwo};
-
-// The largest number of three groups.
-pub const LARGEST: usize = 2097151;
+ghost use Rattle.meaning.specs.Limits.{largestNumber};
+ghost use Rattle.number.specs.Reading.{foundAt, numberAt, afterOne, afterTwo};
 
 // A number that was read, with the place of what follows it, or that none is well formed there.
 pub enum Number {
     Is { value: usize, next: usize },
     Malformed,
-}
-
-// The largest number, as the definitions have it.
-pub fn largest() -> usize
-    ensures { λ r. ⌜ r ≡ largestNumber ⌝ }
-{
-    LARGEST
 }
 
 // A byte as a number.

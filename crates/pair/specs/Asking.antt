@@ -6,7 +6,7 @@ use mathlib.Core.Option.{some}
 use mathlib.Core.List.{List}
 use lib.ListN.{length}
 use Rattle.meaning.specs.Bytes.{Text}
-use Rattle.meaning.specs.Limits.{listBytes, specBytes}
+use Rattle.meaning.specs.Limits.{specListBytes, specBytes}
 use Rattle.meaning.specs.Listing as listing
 use Rattle.parse.specs.Places.{sideMeant}
 use Rattle.buffer.specs.Splice.{splice}
@@ -23,7 +23,7 @@ pub record Askable (specs : Text) (negatives : List ℕ) (count : ℕ) : Type 0 
 
 -- a matcher is that of the spec it stands for, whose source is no longer than an accepted one's
 pub record Ready (specs : Text) (m : Matcher) : Type 0 where
-  pub specs-short : length specs ≤ listBytes
+  pub specs-short : length specs ≤ specListBytes
   pub matches : Matches specs (specOf specs m) m
   pub short : (t : Text) → sideMeant specs (m .src) ≡ some t → length t ≤ specBytes
 

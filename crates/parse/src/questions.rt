@@ -14,13 +14,9 @@ use super::types::RefSpec;
 use super::types::Side;
 use super::types::is_negative;
 use super::types::is_present;
+use limits::HASH_DIGITS;
+use limits::SPEC_BYTES;
 use name::NameKind;
-
-// Document 01's limit on one spec's bytes.
-const SPEC_BYTES: usize = 4096;
-
-// Digits of the shortest object hash.
-const SHORTEST_HASH: usize = 40;
 
 // Questions 18, 1 and 2.
 pub(crate) fn entry_refusal(op: u64, spec: &[u8]) -> u64
@@ -201,7 +197,7 @@ fn stars_agree(op: u64, m: Mode, dst: Side, source: NameKind, destination: NameK
 fn looks_like_object_hash(t: &[u8]) -> bool
     ensures { λ r. ⌜ r ≡ hashLike (now (t .entry)) ⌝ }
 {
-    if t.len() < SHORTEST_HASH {
+    if t.len() < HASH_DIGITS {
         return false;
     }
     hex::all_hex(t)

@@ -9,7 +9,7 @@ use borrow.Author.Tests.{leb-true}
 use lib.Dec.{leb}
 use lib.ListN.{length, take}
 use Rattle.meaning.specs.Bytes.{Text}
-use Rattle.meaning.specs.Limits.{listBytes, specCount}
+use Rattle.meaning.specs.Limits.{specListBytes, specCount}
 use Rattle.meaning.specs.Spec.{accepted, refused, Spec}
 use Rattle.meaning.specs.Number.{recordBytes}
 use Rattle.meaning.specs.Lists.{recordsFrom, specRecord, readList, readSpecs}
@@ -34,12 +34,12 @@ unfolding groupTexts
 texts-are op group = distinct-prefixes op group
 
 -- a spec list that was accepted has at most 65,535 bytes
-list-short : (op : ℕ) (specs : Text) (group : List Spec) → readSpecs op specs ≡ accepted group → length specs ≤ listBytes
+list-short : (op : ℕ) (specs : Text) (group : List Spec) → readSpecs op specs ≡ accepted group → length specs ≤ specListBytes
 unfolding readSpecs readList
-list-short op specs group e = go (leb op 1) (leb (length specs) listBytes) refl e
+list-short op specs group e = go (leb op 1) (leb (length specs) specListBytes) refl e
   where
-    go : (a b : Bool) → leb (length specs) listBytes ≡ b → cond a (cond b (recordsFrom (specRecord op) (length specs) 0 specs) (refused 12 none)) (refused 18 none) ≡ accepted group → length specs ≤ listBytes
-    go true true h q = leb-true (length specs) listBytes h
+    go : (a b : Bool) → leb (length specs) specListBytes ≡ b → cond a (cond b (recordsFrom (specRecord op) (length specs) 0 specs) (refused 12 none)) (refused 18 none) ≡ accepted group → length specs ≤ specListBytes
+    go true true h q = leb-true (length specs) specListBytes h
     go true false h q = absurd (let z : _≡_ {A = ℕ} 0 1 = cc in omega arith)
     go false b h q = absurd (let z : _≡_ {A = ℕ} 0 1 = cc in omega arith)
 
@@ -77,7 +77,7 @@ module _ (op : ℕ) (specs : Text) (g : Group) (r : GroupRead specs g (readSpecs
     group-within = passed .is .within
 
     -- and is short
-    pub group-short : length specs ≤ listBytes
+    pub group-short : length specs ≤ specListBytes
     group-short = list-short op specs (passed .members) (passed .answer)
 
     -- its texts are its prefix list

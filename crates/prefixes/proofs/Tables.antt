@@ -12,7 +12,7 @@ use mir.Syntax.{w64}
 use lib.ListN.{length, set, getD, take, drop, length-append, length-set}
 use lib.Seq.{take-append-seam, getD-set-same, getD-set-other}
 use Rattle.meaning.specs.Bytes.{Text, _or_, any, same}
-use Rattle.meaning.specs.Limits.{listBytes, specCount}
+use Rattle.meaning.specs.Limits.{specListBytes, specCount}
 use Rattle.meaning.specs.Number.{textBytes, recordBytes}
 use Rattle.promises.proofs.Laws.{or-right}
 use Rattle.buffer.specs.Splice.{splice}
@@ -78,7 +78,7 @@ unfolding recordBytes
 measured-starts specs table c = record { count = omega arith; small = omega arith; whole = refl }
 
 module _ (specs : Text) (table : List ℕ) (c size i : ℕ) (m : Measured specs table c size i) where
-  module _ (l : i < c) (h : Entries (length specs) table c) (few : length specs ≤ listBytes) (e : Entry) (q : e ≡ entryAt table i) (r : ℕ) (er : r ≡ length (textBytes (entryText specs e))) where
+  module _ (l : i < c) (h : Entries (length specs) table c) (few : length specs ≤ specListBytes) (e : Entry) (q : e ≡ entryAt table i) (r : ℕ) (er : r ≡ length (textBytes (entryText specs e))) where
     short : r ≤ 65556
     short = omega (arith, entry-short specs e (entry-in (length specs) table c h i l e q))
 

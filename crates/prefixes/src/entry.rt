@@ -3,7 +3,7 @@ ghost use mathlib.Core.Path.{_≡_};
 ghost use Prim.Native.Nat.{_+_, _≤_};
 ghost use lib.ListN.{length};
 ghost use Rattle.meaning.specs.Bytes.{same};
-ghost use Rattle.meaning.specs.Limits.{listBytes};
+ghost use Rattle.meaning.specs.Limits.{specListBytes};
 ghost use Rattle.meaning.specs.Number.{textBytes};
 ghost use Rattle.buffer.specs.Splice.{splice};
 ghost use Rattle.prefixes.specs.Table.{entryText, sideEntry, EntryWithin};
@@ -46,7 +46,7 @@ pub(crate) fn side_entry(side: Side) -> Entry
 
 // How many bytes the text takes as a record.
 pub(crate) fn entry_size(specs: &[u8], e: Entry) -> usize
-    requires { ⌜ EntryWithin (length (now specs)) e × (length (now specs) ≤ listBytes) ⌝ }
+    requires { ⌜ EntryWithin (length (now specs)) e × (length (now specs) ≤ specListBytes) ⌝ }
     ensures { λ r. ⌜ r ≡ length (textBytes (entryText (now (specs .entry)) e)) ⌝ }
 {
     if e.frame < FRAMES {
@@ -59,7 +59,7 @@ pub(crate) fn entry_size(specs: &[u8], e: Entry) -> usize
 
 // The text as a record, written from i on; the place after it.
 pub(crate) fn put_entry(out: &mut [u8], i: usize, specs: &[u8], e: Entry) -> usize
-    requires { ⌜ EntryWithin (length (now specs)) e × (length (now specs) ≤ listBytes) × (i + length (textBytes (entryText (now specs) e)) ≤ length (now out)) ⌝ }
+    requires { ⌜ EntryWithin (length (now specs)) e × (length (now specs) ≤ specListBytes) × (i + length (textBytes (entryText (now specs) e)) ≤ length (now out)) ⌝ }
     ensures { λ r. ⌜ (now (out .exit) ≡ splice (now (out .entry)) i (textBytes (entryText (now (specs .entry)) e))) × (r ≡ i + length (textBytes (entryText (now (specs .entry)) e))) ⌝ }
 {
     if e.frame < FRAMES {

@@ -3,7 +3,7 @@ ghost use mathlib.Core.List.{[], _∷_};
 ghost use mathlib.Core.Option.{some};
 ghost use Prim.Native.Nat.{_+_, _*_, _≤_};
 ghost use lib.ListN.{length, take};
-ghost use Rattle.meaning.specs.Limits.{listBytes, specCount};
+ghost use Rattle.meaning.specs.Limits.{specListBytes, specCount};
 ghost use Rattle.meaning.specs.Spec.{accepted};
 ghost use Rattle.meaning.specs.Number.{recordBytes};
 ghost use Rattle.meaning.specs.Prefix.{candidates, expandPrefixes};
@@ -20,6 +20,7 @@ mod table;
 use entry::Entry;
 use entry::side_entry;
 use frames::FRAMES;
+use limits::SPEC_COUNT;
 use parse::types::RefSpec;
 use refspec::spec::remote;
 use spec_list::read_specs;
@@ -91,7 +92,7 @@ fn add_spec(
 fn collect(
     op: u64,
     specs: &[u8],
-    group: [SpecRecord; 256],
+    group: [SpecRecord; SPEC_COUNT],
     n: usize,
     table: &mut [usize],
     scratch: &mut [u8],
@@ -112,7 +113,7 @@ fn collect(
 
 // The texts of a table as a prefix list.
 fn list_table(specs: &[u8], table: &[usize], count: usize, out: &mut [u8]) -> Written
-    requires { ⌜ Entries (length (now specs)) (now table) count × (length (now specs) ≤ listBytes) × (count ≤ 6 * specCount) ⌝ }
+    requires { ⌜ Entries (length (now specs)) (now table) count × (length (now specs) ≤ specListBytes) × (count ≤ 6 * specCount) ⌝ }
     ensures { λ w. ⌜ MeetsOne (accepted (some (recordBytes (tableTexts (now (specs .entry)) (now (table .entry)) count)) ∷ [])) (now (out .entry)) (now (out .exit)) (w .refusal) (w .record) (w .length) ⌝ }
 {
     let size = table_size(specs, table, count);
@@ -132,8 +133,14 @@ fn list_table(specs: &[u8], table: &[usize], count: usize, out: &mut [u8]) -> Wr
 }
 
 // The prefix list of the first n specs of a table.
-fn list_group(op: u64, specs: &[u8], group: [SpecRecord; 256], n: usize, out: &mut [u8]) -> Written
-    requires { ⌜ (n ≤ specCount) × AllWithin (length (now specs)) (take n group) × (length (now specs) ≤ listBytes) ⌝ }
+fn list_group(
+    op: u64,
+    specs: &[u8],
+    group: [SpecRecord; SPEC_COUNT],
+    n: usize,
+    out: &mut [u8],
+) -> Written
+    requires { ⌜ (n ≤ specCount) × AllWithin (length (now specs)) (take n group) × (length (now specs) ≤ specListBytes) ⌝ }
     ensures { λ w. ⌜ MeetsOne (accepted (some (recordBytes (groupTexts op (groupMeant (now (specs .entry)) (take n group)))) ∷ [])) (now (out .entry)) (now (out .exit)) (w .refusal) (w .record) (w .length) ⌝ }
 {
     let mut table = [0usize; 4608];

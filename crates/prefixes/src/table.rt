@@ -4,7 +4,7 @@ ghost use mathlib.Core.List.{[], _∷_};
 ghost use Prim.Native.Nat.{_+_, _*_, _≤_};
 ghost use lib.ListN.{length, set};
 ghost use Rattle.meaning.specs.Bytes.{any, same};
-ghost use Rattle.meaning.specs.Limits.{listBytes, specCount};
+ghost use Rattle.meaning.specs.Limits.{specListBytes, specCount};
 ghost use Rattle.meaning.specs.Number.{recordBytes};
 ghost use Rattle.buffer.specs.Splice.{splice};
 ghost use Rattle.prefixes.specs.Table.{entryText, entryAt, tableTexts, EntryWithin, Entries, Entered};
@@ -74,7 +74,7 @@ pub(crate) fn add(
 
 // How many bytes the texts of a table take as a prefix list.
 pub(crate) fn table_size(specs: &[u8], table: &[usize], count: usize) -> usize
-    requires { ⌜ Entries (length (now specs)) (now table) count × (length (now specs) ≤ listBytes) × (count ≤ 6 * specCount) ⌝ }
+    requires { ⌜ Entries (length (now specs)) (now table) count × (length (now specs) ≤ specListBytes) × (count ≤ 6 * specCount) ⌝ }
     ensures { λ r. ⌜ r ≡ length (recordBytes (tableTexts (now (specs .entry)) (now (table .entry)) count)) ⌝ }
 {
     let mut size = 0;
@@ -88,7 +88,7 @@ pub(crate) fn table_size(specs: &[u8], table: &[usize], count: usize) -> usize
 
 // Writes the texts of a table as a prefix list at the start of the buffer.
 pub(crate) fn put_table(out: &mut [u8], specs: &[u8], table: &[usize], count: usize)
-    requires { ⌜ Entries (length (now specs)) (now table) count × (length (now specs) ≤ listBytes) × (length (recordBytes (tableTexts (now specs) (now table) count)) ≤ length (now out)) ⌝ }
+    requires { ⌜ Entries (length (now specs)) (now table) count × (length (now specs) ≤ specListBytes) × (length (recordBytes (tableTexts (now specs) (now table) count)) ≤ length (now out)) ⌝ }
     ensures { λ _. ⌜ now (out .exit) ≡ splice (now (out .entry)) 0 (recordBytes (tableTexts (now (specs .entry)) (now (table .entry)) count)) ⌝ }
 {
     let mut at = 0;

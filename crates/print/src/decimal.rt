@@ -5,9 +5,7 @@ ghost use lib.ListN.{length};
 ghost use Rattle.meaning.specs.Deliveries.{digits, decimal};
 ghost use Rattle.buffer.specs.Splice.{splice};
 use buffer::put_byte;
-
-// The most digits that a number has in print.
-const DIGITS: usize = 4;
+use limits::DECIMAL_DIGITS;
 
 // The last digit of a number.
 fn last_digit(n: usize) -> u8
@@ -52,5 +50,5 @@ pub(crate) fn put_decimal(out: &mut [u8], at: usize, n: usize) -> usize
     requires { ⌜ at + length (decimal n) ≤ length (now out) ⌝ }
     ensures { λ r. ⌜ (now (out .exit) ≡ splice (now (out .entry)) at (decimal n)) × (r ≡ at + length (decimal n)) ⌝ }
 {
-    put_digits(out, at, DIGITS, n)
+    put_digits(out, at, DECIMAL_DIGITS, n)
 }

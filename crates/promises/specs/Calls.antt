@@ -8,7 +8,7 @@ use mathlib.Core.List.{List, map}
 use mathlib.Core.Option.{some}
 use lib.ListN.{length}
 use Rattle.meaning.specs.Bytes.{Text, every, In}
-use Rattle.meaning.specs.Limits.{listBytes, rowListBytes}
+use Rattle.meaning.specs.Limits.{specListBytes, rowListBytes}
 use Rattle.meaning.specs.Spec.{accepted, Spec, readSpec}
 use Rattle.meaning.specs.Instruction.{canonicalText}
 use Rattle.meaning.specs.Number.{recordBytes}
@@ -87,7 +87,7 @@ CanonicalTold =
     × ((specs : Text) (group : List Spec)
     → readSpecs 0 specs ≡ accepted group
     → every textFits group ≡ true
-    → length (canonicalList group) ≤ listBytes
+    → length (canonicalList group) ≤ specListBytes
     → every noPlus group ≡ true
     → ((items : Text) (c : OneCall) → MetOne (matchLhs 0 specs items) c ↔ MetOne (matchLhs 0 (canonicalList group) items) c)
     × ((items : Text) (c : OneCall) → MetOne (matchRhs 0 specs items) c ↔ MetOne (matchRhs 0 (canonicalList group) items) c)

@@ -7,7 +7,7 @@ use mathlib.Core.List.{List, [], _∷_}
 use mathlib.Core.Option.{some}
 use lib.ListN.{length}
 use Rattle.meaning.specs.Bytes.{Text, every, In}
-use Rattle.meaning.specs.Limits.{listBytes, rowListBytes}
+use Rattle.meaning.specs.Limits.{specListBytes, rowListBytes}
 use Rattle.meaning.specs.Spec.{accepted, Spec}
 use Rattle.meaning.specs.Lists.{readSpecs, readItems}
 use Rattle.meaning.specs.Rows.{Row, rowListOf, readRows}
@@ -66,6 +66,6 @@ CanonicalTextsChangeNothing =
     (specs : Text) (group : List Spec)
     → readSpecs 0 specs ≡ accepted group
     → every textFits group ≡ true
-    → length (canonicalList group) ≤ listBytes
+    → length (canonicalList group) ≤ specListBytes
     → every noPlus group ≡ true
     → (group′ : List Spec) × (readSpecs 0 (canonicalList group) ≡ accepted group′) × SameMeaning group group′ specs (canonicalList group)

@@ -8,7 +8,7 @@ use mathlib.Core.List.{List, [], _∷_}
 use mathlib.Core.Option.{Option, none, some}
 use lib.ListN.{length}
 use Rattle.meaning.specs.Bytes.{Text, bytes, _and_, _or_, every, keep, begins, In}
-use Rattle.meaning.specs.Limits.{listBytes, rowListBytes}
+use Rattle.meaning.specs.Limits.{specListBytes, rowListBytes}
 use Rattle.meaning.specs.Spec.{accepted, Force, Negative, Spec, starred}
 use Rattle.meaning.specs.Number.{recordBytes}
 use Rattle.meaning.specs.Lists.{readSpecs, readItems}
@@ -165,7 +165,7 @@ abbrev pub CanonicalOfAnySpecs : Type 0
 CanonicalOfAnySpecs =
     (group : List Spec)
     → every textFits group ≡ true
-    → length (canonicalList group) ≤ listBytes
+    → length (canonicalList group) ≤ specListBytes
     → every noPlus group ≡ true
     → (group′ : List Spec) × (readSpecs 0 (canonicalList group) ≡ accepted group′)
 
@@ -174,7 +174,7 @@ abbrev pub CanonicalOfAnyLength : Type 0
 CanonicalOfAnyLength =
     (specs : Text) (group : List Spec)
     → readSpecs 0 specs ≡ accepted group
-    → length (canonicalList group) ≤ listBytes
+    → length (canonicalList group) ≤ specListBytes
     → every noPlus group ≡ true
     → (group′ : List Spec) × (readSpecs 0 (canonicalList group) ≡ accepted group′)
 
@@ -193,7 +193,7 @@ CanonicalOfAnySource =
     (specs : Text) (group : List Spec)
     → readSpecs 0 specs ≡ accepted group
     → every textFits group ≡ true
-    → length (canonicalList group) ≤ listBytes
+    → length (canonicalList group) ≤ specListBytes
     → (group′ : List Spec) × (readSpecs 0 (canonicalList group) ≡ accepted group′) × SameMeaning group group′ specs (canonicalList group)
 
 -- the group of canonical texts is the group itself
@@ -202,7 +202,7 @@ CanonicalIsTheSame =
     (specs : Text) (group : List Spec)
     → readSpecs 0 specs ≡ accepted group
     → every textFits group ≡ true
-    → length (canonicalList group) ≤ listBytes
+    → length (canonicalList group) ≤ specListBytes
     → every noPlus group ≡ true
     → readSpecs 0 (canonicalList group) ≡ accepted group
 
@@ -250,5 +250,5 @@ pub record PremisesMet : Type 0 where
   pub is-reversible : every reversible hubGroup ≡ true
   pub row-is-kept : verdict (forwardRows hubGroup hubNames) ≡ passing (hubRow ∷ []) []
   pub maps-back : StandsAsSource (reverseRows hubGroup (bytes "refs/remotes/hub/codes" ∷ [])) (bytes "refs/remotes/hub/codes") (bytes "refs/heads/codes")
-  pub texts-fit : (every textFits hubGroup ≡ true) × (length (canonicalList hubGroup) ≤ listBytes)
+  pub texts-fit : (every textFits hubGroup ≡ true) × (length (canonicalList hubGroup) ≤ specListBytes)
   pub has-no-plus : every noPlus hubGroup ≡ true

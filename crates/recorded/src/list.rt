@@ -10,6 +10,7 @@ ghost use Rattle.recorded.specs.Field.{Found, PassedText, PassedRecord};
 use super::field::Next;
 use super::field::text_field;
 use super::field::wide;
+use limits::LARGEST_NUMBER;
 use number::Number;
 
 // A prefix that agrees, with the places of the next field and of the list's next record; or one that differs.
@@ -51,7 +52,7 @@ pub(crate) fn list_field(told: &[u8], start: usize, list: &[u8]) -> Next
     if told.len() <= start {
         return Next::Differs;
     }
-    if number::LARGEST < list.len() {
+    if LARGEST_NUMBER < list.len() {
         return Next::Differs;
     }
     let many = wide(told[start]);

@@ -4,7 +4,7 @@ use mathlib.Core.Bool.{Bool, true, false}
 use mathlib.Core.List.{_++_}
 use lib.ListN.{length}
 use Rattle.meaning.specs.Bytes.{Text, orEmpty}
-use Rattle.meaning.specs.Limits.{listBytes, nameBytes, itemCount, specCount}
+use Rattle.meaning.specs.Limits.{specListBytes, nameBytes, itemCount, specCount}
 use Rattle.meaning.specs.Number.{numberBytes}
 use Rattle.meaning.specs.Rows.{Row}
 use Rattle.matcher.specs.declared.types.Made.{Made}
@@ -20,7 +20,7 @@ isAbsent (Filled start start-len from len end end-len) = false
 
 -- the sizes of a spec list and of a name that were read
 pub record Lent (specs name : Text) : Type 0 where
-  pub specs-short : length specs ≤ listBytes
+  pub specs-short : length specs ≤ specListBytes
   pub name-short : length name ≤ nameBytes
 
 -- the numbers of a row are small, and its texts stand within the spec list and the name

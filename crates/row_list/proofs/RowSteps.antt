@@ -17,7 +17,8 @@ use Rattle.promises.proofs.Members.{rows-long, need-yes, step-took}
 use Rattle.promises.proofs.Steps.{rows-shrink, list-records}
 use Rattle.number.specs.declared.Number.{Number}
 use Rattle.number.specs.declared.Number.the-variants.{Is, Malformed}
-use Rattle.number.specs.Reading.{largestNumber, Octets, numberAt}
+use Rattle.meaning.specs.Limits.{largestNumber}
+use Rattle.number.specs.Reading.{Octets, numberAt}
 use Rattle.number.proofs.Answers.{number-stands, number-none}
 use Rattle.number.proofs.Round.{read-only, read-small}
 use Rattle.parse.specs.declared.types.Side.the-variants.{Absent, Part}

@@ -8,7 +8,7 @@ use lib.ListN.{length, drop}
 use Rattle.meaning.specs.Bytes.{Text}
 use Rattle.meaning.specs.Number.{Step, took, no, Reader, _>>=_, give, need, readNumber, readText}
 use Rattle.meaning.specs.Rows as meaning
-use Rattle.number.specs.Reading.{largestNumber}
+use Rattle.meaning.specs.Limits.{largestNumber}
 use Rattle.parse.specs.declared.types.Side.{Side}
 use Rattle.parse.specs.declared.types.Side.the-variants.{Absent, Part}
 use Rattle.parse.specs.Places.{partAt, sideMeant, Within}

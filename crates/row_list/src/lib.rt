@@ -12,17 +12,13 @@ ghost use Rattle.parse.specs.Places.{partAt};
 ghost use Rattle.row_list.specs.declared.RowStep.the-variants.{Row, Refused};
 ghost use Rattle.list.specs.Checked.{checked};
 ghost use Rattle.row_list.specs.Rows.{rowMeant, placedRow, afterNumber, afterSource, afterKind, afterSpec, afterItem, rowStepAt, RowSays};
+use limits::ID_DIGITS;
+use limits::ROW_LIST_BYTES;
 use list::cursor::Cursor;
 use list::cursor::Step;
 use list::items::Checked;
 use number::Number;
 use parse::types::Side;
-
-// Document 01's limit on a row list's bytes.
-const ROW_LIST_BYTES: usize = 1048576;
-
-// Digits of an object id.
-const DIGITS: usize = 40;
 
 // A row: its numbers, its source as a place in the list, and its destination, which may be absent.
 pub struct RowPlace {
@@ -46,7 +42,7 @@ fn object_digits(list: &[u8], at: usize, n: usize) -> bool
     requires { ⌜ at + n ≤ length (now list) ⌝ }
     ensures { λ r. ⌜ r ≡ objectDigits (partAt (now (list .entry)) at n) ⌝ }
 {
-    if n != DIGITS {
+    if n != ID_DIGITS {
         return false;
     }
     let end = at + n;

@@ -2,7 +2,7 @@
 use Prim.Native.Nat.{ℕ, zero, suc, _+_, _≤_}
 use native.Mathlib.Omega.{arith}
 use mathlib.Core.Path.{_≡_, refl}
-use Rattle.meaning.specs.Limits.{listBytes}
+use Rattle.meaning.specs.Limits.{specListBytes}
 use Rattle.parse.specs.declared.types.Side.{Side}
 use Rattle.parse.specs.declared.types.Side.the-variants.{Absent, Part, Head}
 use Rattle.parse.specs.Places.{Within}
@@ -23,12 +23,12 @@ side-rest (suc zero) at n a b = absurd (b refl)
 side-rest (suc (suc kind)) at n a b = refl
 
 -- ---- small numbers
-module _ (s : Side) (at n : ℕ) (is : s ≡ Part at n) (w : Within listBytes s) where
-  pub at-small : at ≤ listBytes
-  at-small = let h : at + n ≤ listBytes = rw is at w in omega arith
+module _ (s : Side) (at n : ℕ) (is : s ≡ Part at n) (w : Within specListBytes s) where
+  pub at-small : at ≤ specListBytes
+  at-small = let h : at + n ≤ specListBytes = rw is at w in omega arith
 
-  pub len-small : n ≤ listBytes
-  len-small = let h : at + n ≤ listBytes = rw is at w in omega arith
+  pub len-small : n ≤ specListBytes
+  len-small = let h : at + n ≤ specListBytes = rw is at w in omega arith
 
 -- a side within so many bytes stands within more
 pub side-wider : (len more : ℕ) (s : Side) → len ≤ more → Within len s → Within more s

@@ -2,14 +2,14 @@
 // has there.
 ghost use mathlib.Core.Path.{_≡_};
 ghost use Prim.Native.Nat.{_≤_};
-ghost use Rattle.meaning.specs.Limits.{listBytes};
+ghost use Rattle.meaning.specs.Limits.{specListBytes};
 ghost use Rattle.parse.specs.Places.{Within};
 ghost use Rattle.sides.specs.Numbers.{sideFrom, sideKind, sideAt, sideLen};
 use parse::types::Side;
 
 // A place in a spec list as a number of a table.
 pub fn narrow(n: usize) -> u16
-    requires { ⌜ n ≤ listBytes ⌝ }
+    requires { ⌜ n ≤ specListBytes ⌝ }
     ensures { λ r. ⌜ r ≡ n ⌝ }
 {
     n as u16
@@ -35,7 +35,7 @@ pub fn side_kind(side: Side) -> u16
 
 // Where a side begins.
 pub fn side_at(side: Side) -> u16
-    requires { ⌜ Within listBytes side ⌝ }
+    requires { ⌜ Within specListBytes side ⌝ }
     ensures { λ r. ⌜ r ≡ sideAt side ⌝ }
 {
     match side {
@@ -47,7 +47,7 @@ pub fn side_at(side: Side) -> u16
 
 // How many bytes of the spec list a side has.
 pub fn side_len(side: Side) -> u16
-    requires { ⌜ Within listBytes side ⌝ }
+    requires { ⌜ Within specListBytes side ⌝ }
     ensures { λ r. ⌜ r ≡ sideLen side ⌝ }
 {
     match side {

@@ -3,7 +3,7 @@ ghost use mathlib.Core.Path.{_≡_};
 ghost use mathlib.Core.Option.{none};
 ghost use Prim.Native.Nat.{_+_, _<_, _≤_};
 ghost use lib.ListN.{length};
-ghost use Rattle.meaning.specs.Limits.{listBytes};
+ghost use Rattle.meaning.specs.Limits.{specListBytes};
 ghost use Rattle.meaning.specs.Lists.{specRecord, readSpecs};
 ghost use Rattle.promises.specs.Facts.{records};
 ghost use Rattle.parse.specs.Places.{Within, SidesWithin};
@@ -13,6 +13,8 @@ ghost use Rattle.spec_list.specs.Group.{shiftedSide, shifted, SpecIn, Sp
 pub mod record;
 pub mod table;
 
+use limits::SPEC_COUNT;
+use limits::SPEC_LIST_BYTES;
 use list::cursor::Cursor;
 use list::cursor::Step;
 use list::items::Checked;
@@ -23,18 +25,13 @@ use parse::types::Side;
 use record::SpecRecord;
 use record::record_of;
 
-// Document 01's limits on a spec list: its bytes and its records.
-const LIST_BYTES: usize = 65535;
-
-const SPECS: usize = 256;
-
 // A spec list that was read: a refusal's number or 0, the number of the record that it carries, how many specs were accepted, and these,
 // as places in the list. A number without a meaning is 0.
 pub struct Group {
     pub refusal: u64,
     pub record: u64,
     pub count: usize,
-    pub specs: [SpecRecord; 256],
+    pub specs: [SpecRecord; SPEC_COUNT],
 }
 
 // What stands at a cursor: a spec, as places in the list, with the cursor moved on; the list's end; or a refusal's number.
@@ -46,7 +43,7 @@ pub(crate) enum SpecStep {
 
 // A side of a spec that begins at `start`, as a place in the list.
 fn shifted_side(start: usize, len: usize, side: Side) -> Side
-    requires { ⌜ Within len side × (start + len ≤ listBytes) ⌝ }
+    requires { ⌜ Within len side × (start + len ≤ specListBytes) ⌝ }
     ensures { λ r. ⌜ r ≡ shiftedSide start side ⌝ }
 {
     match side {
@@ -58,7 +55,7 @@ fn shifted_side(start: usize, len: usize, side: Side) -> Side
 
 // A spec of `len` bytes that begins at `start`, as places in the list.
 fn shifted(start: usize, len: usize, r: RefSpec) -> RefSpec
-    requires { ⌜ SidesWithin len r × (start + len ≤ listBytes) ⌝ }
+    requires { ⌜ SidesWithin len r × (start + len ≤ specListBytes) ⌝ }
     ensures { λ q. ⌜ q ≡ shifted start r ⌝ }
 {
     let mode = r.mode;
@@ -71,7 +68,7 @@ fn shifted(start: usize, len: usize, r: RefSpec) -> RefSpec
 
 // The spec of `len` bytes that begins at `start`: its own questions.
 fn spec_in(op: u64, list: &[u8], start: usize, len: usize, next: Cursor) -> SpecStep
-    requires { ⌜ (start + len ≤ length (now list)) × (length (now list) ≤ listBytes) ⌝ }
+    requires { ⌜ (start + len ≤ length (now list)) × (length (now list) ≤ specListBytes) ⌝ }
     ensures { λ r. ⌜ SpecIn op (now (list .entry)) start len next r ⌝ }
 {
     let end = start + len;
@@ -86,14 +83,14 @@ fn spec_in(op: u64, list: &[u8], start: usize, len: usize, next: Cursor) -> Spec
 
 // The spec that stands at a cursor with `count` specs behind it: questions 14, 13, and its own.
 fn spec_at(op: u64, list: &[u8], c: Cursor, count: usize) -> SpecStep
-    requires { ⌜ length (now list) ≤ listBytes ⌝ }
+    requires { ⌜ length (now list) ≤ specListBytes ⌝ }
     ensures { λ r. ⌜ SpecSays op count (now (list .entry)) (c .at) r ⌝ }
 {
     let at = c.at;
     if list.len() <= at {
         return SpecStep::End;
     }
-    if SPECS <= count {
+    if SPEC_COUNT <= count {
         return SpecStep::Refused(14);
     }
     match c.next(list) {
@@ -104,7 +101,7 @@ fn spec_at(op: u64, list: &[u8], c: Cursor, count: usize) -> SpecStep
 }
 
 // A table with no specs.
-fn no_specs() -> [SpecRecord; 256]
+fn no_specs() -> [SpecRecord; SPEC_COUNT]
     ensures { λ t. ⌜ length t ≡ 256 ⌝ }
 {
     let none = SpecRecord {
@@ -116,7 +113,7 @@ fn no_specs() -> [SpecRecord; 256]
         dst_at: 0,
         dst_len: 0,
     };
-    [none; 256]
+    [none; SPEC_COUNT]
 }
 
 // A group that was refused at no record.
@@ -135,7 +132,7 @@ fn refused(n: u64) -> Group
 
 // The records of a spec list, one after the other.
 fn each_spec(op: u64, list: &[u8]) -> Group
-    requires { ⌜ length (now list) ≤ listBytes ⌝ }
+    requires { ⌜ length (now list) ≤ specListBytes ⌝ }
     ensures { λ g. ⌜ GroupRead (now (list .entry)) g (records (specRecord op) 0 (now (list .entry))) ⌝ }
 {
     let mut specs = no_specs();
@@ -175,7 +172,7 @@ pub fn read_specs(op: u64, list: &[u8]) -> Group
     if 1 < op {
         return refused(18);
     }
-    if LIST_BYTES < list.len() {
+    if SPEC_LIST_BYTES < list.len() {
         return refused(12);
     }
     each_spec(op, list)
@@ -183,7 +180,7 @@ pub fn read_specs(op: u64, list: &[u8]) -> Group
 
 // The records of a spec list, one after the other, none of them kept.
 fn each_checked(op: u64, list: &[u8]) -> Checked
-    requires { ⌜ length (now list) ≤ listBytes ⌝ }
+    requires { ⌜ length (now list) ≤ specListBytes ⌝ }
     ensures { λ r. ⌜ r ≡ checked (records (specRecord op) 0 (now (list .entry))) ⌝ }
 {
     let mut c = Cursor::new();
@@ -223,7 +220,7 @@ pub fn check_specs(op: u64, list: &[u8]) -> Checked
             count: 0,
         };
     }
-    if LIST_BYTES < list.len() {
+    if SPEC_LIST_BYTES < list.len() {
         return Checked {
             refusal: 12,
             record: 0,

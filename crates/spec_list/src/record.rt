@@ -1,6 +1,6 @@
 // A spec of a group in fourteen bytes, so that a table of 256 is soon cleared and copied: its mode, and each side as three numbers.
 ghost use mathlib.Core.Path.{_≡_};
-ghost use Rattle.meaning.specs.Limits.{listBytes};
+ghost use Rattle.meaning.specs.Limits.{specListBytes};
 ghost use Rattle.parse.specs.Places.{SidesWithin};
 ghost use Rattle.spec_list.specs.Table.{specFrom};
 use parse::types::Mode;
@@ -24,7 +24,7 @@ pub struct SpecRecord {
 
 // The record of a spec.
 pub(crate) fn record_of(r: RefSpec) -> SpecRecord
-    requires { ⌜ SidesWithin listBytes r ⌝ }
+    requires { ⌜ SidesWithin specListBytes r ⌝ }
     ensures { λ q. ⌜ specFrom q ≡ r ⌝ }
 {
     let mode = r.mode;

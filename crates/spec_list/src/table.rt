@@ -4,6 +4,7 @@ ghost use Prim.Native.Nat.{_<_, _≤_};
 ghost use lib.ListN.{length, take};
 ghost use Rattle.spec_list.specs.Table.{specAt};
 use super::record::SpecRecord;
+use limits::SPEC_COUNT;
 
 // Record number i of a table that is lent.
 pub fn spec_at(table: &[SpecRecord], i: usize) -> SpecRecord
@@ -14,7 +15,7 @@ pub fn spec_at(table: &[SpecRecord], i: usize) -> SpecRecord
 }
 
 // Record number i of a group: the first n records of its table, which came by value, are lent.
-pub fn spec_of(table: [SpecRecord; 256], n: usize, i: usize) -> SpecRecord
+pub fn spec_of(table: [SpecRecord; SPEC_COUNT], n: usize, i: usize) -> SpecRecord
     requires { ⌜ (n ≤ 256) × (i < n) ⌝ }
     ensures { λ r. ⌜ r ≡ specAt (take n table) i ⌝ }
 {

@@ -46,7 +46,7 @@ use denote.Triple.Walked.{says, needs, Stays, stay-none-slice, stay-slice, walkO
 use denote.Triple.Clauses.{ensured, lasts}
 use denote.Exit.{yes}
 use borrow.Author.Tests.{ltb-true, ltb-false}
-use Rattle.meaning.specs.Limits.{listBytes}
+use Rattle.meaning.specs.Limits.{specListBytes}
 use Rattle.parse.specs.Places.{SidesWithin}
 use Rattle.exclude.specs.Making.{Added}
 use Rattle.spec_list.specs.declared.record.SpecRecord.{SpecRecord}
@@ -194,7 +194,7 @@ module _ {M : Type 1} (𝓤 : URA M) (H : Heap 𝓤) (A : Atoms 𝓤) (W : Given
 
   -- what it asks, and what it says of the number k and the lists ts and ns
   abbrev Asked : At → SpecRecord → Type 0
-  Asked t r = SidesWithin (length (s .now)) (specFrom r) × (length (s .now) ≤ listBytes) × (10 * t .i + 10 ≤ length (t .table)) × (4 * t .count + 4 ≤ length (t .negatives))
+  Asked t r = SidesWithin (length (s .now)) (specFrom r) × (length (s .now) ≤ specListBytes) × (10 * t .i + 10 ≤ length (t .table)) × (4 * t .count + 4 ≤ length (t .negatives))
 
   abbrev Told : At → SpecRecord → ℕ → List ℕ → List ℕ → Type 0
   Told t r k ts ns = NotedAt (s .now) (recordMeant (s .now) r) (t .table) (t .i) ts × Added (s .now) (recordMeant (s .now) r) (t .negatives) (t .count) ns k
