@@ -10,6 +10,7 @@ use mir.Syntax.{w64}
 use lib.ListN.{length, getD, drop, length-append}
 use lib.Seq.{drop-drop}
 use Rattle.meaning.specs.Bytes.{Text}
+use Rattle.meaning.specs.Limits.{rowListBytes}
 use Rattle.promises.proofs.Laws.{same-refl}
 use Rattle.text.proofs.Rests.{rest-cons, rest-end}
 use Rattle.keys.specs.declared.key.Key.the-variants.{Place, Source}
@@ -18,6 +19,7 @@ use Rattle.keys.specs.Keys.{keyAt, sameAt, notAfter}
 use Rattle.order.specs.Keys.{sortPlaces}
 use Rattle.order.proofs.Heads.{heads-sort, place-sort}
 use Rattle.conflict.specs.declared.sources.HeadsSize.{HeadsSize}
+use Rattle.conflict.specs.Sizes.{sourceMost}
 use Rattle.conflict.specs.Shared.{OneRun, runBytes, sourceAt, sourcesAt, firstsAt, Heads}
 
 -- the head of a run stands before the heads that follow the run
@@ -51,14 +53,14 @@ pub record Counting (s : Text) (l : List ℕ) (i count size : ℕ) : Type 0 wher
   pub few : count ≤ i
   pub counted : count + length (heads (one s) (drop i l)) ≡ length (heads (one s) l)
   pub measured : size + length (sourcesAt s (heads (one s) (drop i l))) ≡ length (sourcesAt s (heads (one s) l))
-  pub small : size ≤ count * 1048585
+  pub small : size ≤ count * sourceMost
 
 pub counting-starts : (s : Text) (l : List ℕ) → Counting s l 0 0 0
 counting-starts s l = record { within = omega arith; few = omega arith; counted = omega arith; measured = omega arith; small = omega arith }
 
 module _ (s : Text) (l : List ℕ) (i count size : ℕ) (m : Counting s l i count size) where
-  module _ (h : i < length l) (end : ℕ) (run : end ≡ i + runOf (one s (getD l i 0)) (drop i l)) (begun : i < end) (room : end ≤ length l) (p n : ℕ) (ep : p ≡ getD l i 0) (en : n ≡ length (sourceAt s p)) (few : n ≤ 1048585) where
-    pub counting-fits : length l ≤ 1048576 → Fits w64 (size + n)
+  module _ (h : i < length l) (end : ℕ) (run : end ≡ i + runOf (one s (getD l i 0)) (drop i l)) (begun : i < end) (room : end ≤ length l) (p n : ℕ) (ep : p ≡ getD l i 0) (en : n ≡ length (sourceAt s p)) (few : n ≤ sourceMost) where
+    pub counting-fits : length l ≤ rowListBytes → Fits w64 (size + n)
     counting-fits k = omega (arith, m .small, m .few)
 
     pub counting-more : Counting s l end (count + 1) (size + n)
@@ -74,9 +76,9 @@ module _ (s : Text) (l : List ℕ) (i count size : ℕ) (m : Counting s l i coun
           small = omega (arith, m .small);
         }
 
-  pub counting-done : length l ≤ i → length l ≤ 1048576 → Heads s l (record { count = count; size = size })
+  pub counting-done : length l ≤ i → Heads s l (record { count = count; size = size })
   unfolding sourcesAt
-  counting-done h k =
+  counting-done h =
       let z = rest-end l i h in
       record {
         count-is = omega (arith, m .counted, ap (λ (x : List ℕ). length (heads (one s) x)) z);

@@ -7,9 +7,11 @@ use mir.Val.{Fits}
 use mir.Syntax.{w64}
 use lib.ListN.{length, getD, drop, length-append}
 use Rattle.meaning.specs.Bytes.{Text}
+use Rattle.meaning.specs.Limits.{rowListBytes}
 use Rattle.buffer.specs.Splice.{splice}
 use Rattle.text.proofs.Rests.{rest-cons, rest-end}
 use Rattle.buffer.proofs.Writing.{Writing, writing-starts, writing-room, writing-more, written-place, written-whole}
+use Rattle.conflict.specs.Sizes.{sourceMost}
 use Rattle.conflict.specs.Shared.{sourceAt, sourcesAt}
 
 module _ (s : Text) (l : List ℕ) (i : ℕ) where
@@ -25,14 +27,14 @@ module _ (s : Text) (l : List ℕ) (i : ℕ) where
 pub record Measuring (s : Text) (l : List ℕ) (i size : ℕ) : Type 0 where
   pub within : i ≤ length l
   pub measured : size + length (sourcesAt s (drop i l)) ≡ length (sourcesAt s l)
-  pub small : size ≤ i * 1048585
+  pub small : size ≤ i * sourceMost
 
 pub measuring-starts : (s : Text) (l : List ℕ) → Measuring s l 0 0
 measuring-starts s l = record { within = omega arith; measured = omega arith; small = omega arith }
 
 module _ (s : Text) (l : List ℕ) (i size : ℕ) (m : Measuring s l i size) where
-  module _ (p n : ℕ) (h : i < length l) (ep : p ≡ getD l i 0) (en : n ≡ length (sourceAt s p)) (few : n ≤ 1048585) where
-    pub measuring-fits : length l ≤ 1048576 → Fits w64 (size + n)
+  module _ (p n : ℕ) (h : i < length l) (ep : p ≡ getD l i 0) (en : n ≡ length (sourceAt s p)) (few : n ≤ sourceMost) where
+    pub measuring-fits : length l ≤ rowListBytes → Fits w64 (size + n)
     measuring-fits k = omega (arith, m .small)
 
     pub measuring-more : Measuring s l (i + 1) (size + n)
@@ -47,8 +49,8 @@ module _ (s : Text) (l : List ℕ) (i size : ℕ) (m : Measuring s l i size) whe
   pub measuring-done : length l ≤ i → size ≡ length (sourcesAt s l)
   measuring-done h = omega (arith, m .measured, ap length (source-none s l i h))
 
-  pub measuring-small : length l ≤ 1048576 → size ≤ 1099521064960
-  measuring-small h = omega (arith, m .small, m .within)
+  pub measuring-small : size ≤ length l * sourceMost
+  measuring-small = omega (arith, m .small, m .within)
 
 -- the first i sources are written
 pub record Putting (s : Text) (l : List ℕ) (buffer : Text) (start : ℕ) (out : Text) (to i : ℕ) : Type 0 where

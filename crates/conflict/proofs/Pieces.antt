@@ -7,6 +7,7 @@ use mir.Val.{Fits}
 use mir.Syntax.{w64}
 use lib.ListN.{length, take, drop, length-append}
 use Rattle.meaning.specs.Bytes.{Text}
+use Rattle.meaning.specs.Limits.{rowListBytes, numberGroups}
 use Rattle.meaning.specs.Number.{numberBytes, textBytes}
 use Rattle.meaning.specs.Validation.{sourceBytes}
 use Rattle.buffer.specs.Splice.{splice}
@@ -16,6 +17,7 @@ use Rattle.number.proofs.Texts.{text-size, number-room, text-room, text-put, te
 use Rattle.parse.specs.Places.{partAt}
 use Rattle.keys.specs.declared.fields.RowFields.{RowFields}
 use Rattle.keys.specs.Keys.{rowAt, Finds}
+use Rattle.conflict.specs.Sizes.{sourceMost}
 use Rattle.conflict.specs.Shared.{sourceAt}
 use Rattle.conflict.proofs.Parts.{part-is, part-long}
 
@@ -43,7 +45,7 @@ module _ (s : Text) (start len : ℕ) (inside : start + len ≤ length s) where
         text-after = text-ends (partAt s start len) len long d at fits d₁ i p₁ e₁ d₂ j (rw (part-is s start len) at p₂) (rw (part-is s start len) at e₂)
 
 -- sums of a few numbers' bytes
-few : (m k : ℕ) → m ≡ length (numberBytes k) → m ≤ 3
+few : (m k : ℕ) → m ≡ length (numberBytes k) → m ≤ numberGroups
 few m k e = omega (arith, bytes-few k)
 
 module _ (x k y l : ℕ) (ex : x ≡ length (numberBytes k)) (ey : y ≡ length (numberBytes l)) where
@@ -59,11 +61,11 @@ module _ (s : Text) (p : ℕ) (f : RowFields) (w : Finds s (rowAt s p) f) where
   unfolding sourceAt sourceBytes
   source-pieces = rw (w .spec-is, w .kind-is, w .source-is)
 
-  module _ (short : length s ≤ 1048576) (x y z : ℕ) (ex : x ≡ length (numberBytes (f .spec))) (ey : y ≡ length (numberBytes (f .kind))) (ez : z ≡ length (numberBytes (f .«src_len»))) where
+  module _ (short : length s ≤ rowListBytes) (x y z : ℕ) (ex : x ≡ length (numberBytes (f .spec))) (ey : y ≡ length (numberBytes (f .kind))) (ez : z ≡ length (numberBytes (f .«src_len»))) where
     pub source-fits : Fits w64 (x + y + z + f .«src_len»)
     source-fits = omega (arith, few x (f .spec) ex, few y (f .kind) ey, few z (f .«src_len») ez, w .source-within)
 
-    pub source-small : x + y + z + f .«src_len» ≤ 1048585
+    pub source-small : x + y + z + f .«src_len» ≤ sourceMost
     source-small = omega (arith, few x (f .spec) ex, few y (f .kind) ey, few z (f .«src_len») ez, w .source-within)
 
     pub source-size : x + y + z + f .«src_len» ≡ length (sourceAt s p)

@@ -2,7 +2,7 @@
 use mathlib.Core.Path.{_≡_, refl, sym, ap, _∙_}
 use mathlib.Core.Bool.{Bool, true, false, cond}
 use mathlib.Core.List.{List, [], _∷_, _++_, map, append-nil, append-assoc}
-use Prim.Native.Nat.{ℕ, suc, _+_, _≤_, _<_}
+use Prim.Native.Nat.{ℕ, suc, _+_, _*_, _≤_, _<_}
 use native.Mathlib.Nat.{add-zero}
 use native.Mathlib.Omega.{arith}
 use mir.Val.{Fits}
@@ -10,6 +10,7 @@ use mir.Syntax.{w64}
 use lib.ListN.{length, getD, take, length-append, length-map}
 use lib.Seq.{length-take-le}
 use Rattle.meaning.specs.Bytes.{Text, any, keep, each, In, here, there}
+use Rattle.meaning.specs.Limits.{rowListBytes}
 use Rattle.meaning.specs.Number.{numberBytes, textBytes}
 use Rattle.meaning.specs.Rows.{Row}
 use Rattle.meaning.specs.Validation.{differ, rowsOnto, twoDiffer, inConflict, firstSeen, rowSource, conflictOn, sourceBytes, conflictBytes}
@@ -25,6 +26,7 @@ use Rattle.keys.specs.declared.fields.RowFields.{RowFields}
 use Rattle.keys.specs.declared.key.Key.the-variants.{Source}
 use Rattle.order.specs.Sorting.{firstsBy}
 use Rattle.keys.specs.Keys.{rowAt, Finds, sameAt}
+use Rattle.conflict.specs.Sizes.{destinationMost, sourceMost, rowMost}
 use Rattle.conflict.specs.Shared.{conflictPart}
 use Rattle.conflict.specs.FirstSeen.{sourcesOn, sourcesBytes, listedBytes}
 use Rattle.conflict.specs.Shared.{rowsAt, destinationAt, OneRun, runBytes, headAt, listedAt, sourcesAt, firstsAt}
@@ -145,10 +147,10 @@ module _ (s : Text) (l : List ℕ) (run : OneRun s l) where
     pub firsts-some : 2 ≤ n → 0 < length (take n e)
     firsts-some h = omega (arith, firsts-count)
 
-    pub firsts-short : length l ≤ 1048576 → length (take n e) ≤ 1048576
+    pub firsts-short : length l ≤ rowListBytes → length (take n e) ≤ rowListBytes
     firsts-short h = omega (arith, firsts-count)
 
-    pub firsts-pair : length l ≡ 2 → length (take n e) ≤ 1048576
+    pub firsts-pair : length l ≡ 2 → length (take n e) ≤ rowListBytes
     firsts-pair h = omega (arith, firsts-count)
 
     whole : 2 ≤ n → runBytes s l ≡ listedAt s (take n e)
@@ -158,6 +160,9 @@ module _ (s : Text) (l : List ℕ) (run : OneRun s l) where
     module _ (two : 2 ≤ n) where
       pub two-size : (k : ℕ) → k ≡ length (listedAt s (take n e)) → k ≡ length (runBytes s l)
       two-size k h = rw (whole two) h
+
+      pub two-small : (k : ℕ) → k ≤ length (take n e) * rowMost → k ≤ length l * rowMost
+      two-small k h = omega (arith, firsts-count)
 
       module _ (o : Text) (to : ℕ) where
         pub two-room : to + length (runBytes s l) ≤ length o → to + length (listedAt s (take n e)) ≤ length o
@@ -188,11 +193,11 @@ module _ (s : Text) (p : ℕ) (f : RowFields) (w : Finds s (rowAt s p) f) where
   unfolding destinationAt
   destination-is = sym (w .destination-is)
 
-  module _ (short : length s ≤ 1048576) (x : ℕ) (ex : x ≡ length (numberBytes (f .«dst_len»))) where
+  module _ (short : length s ≤ rowListBytes) (x : ℕ) (ex : x ≡ length (numberBytes (f .«dst_len»))) where
     pub destination-fits : Fits w64 (x + f .«dst_len»)
     destination-fits = omega (arith, bytes-few (f .«dst_len»), w .destination-within)
 
-    pub destination-small : x + f .«dst_len» ≤ 1048579
+    pub destination-small : x + f .«dst_len» ≤ destinationMost
     destination-small = omega (arith, bytes-few (f .«dst_len»), w .destination-within)
 
     pub destination-size : x + f .«dst_len» ≡ length (textBytes (destinationAt s p))
@@ -208,6 +213,18 @@ module _ (s : Text) (p : ℕ) (f : RowFields) (w : Finds s (rowAt s p) f) where
     pub destination-after : (k : ℕ) → k ≡ to + length (textBytes (partAt s (f .«dst_at») (f .«dst_len»))) → k ≡ to + length (textBytes (destinationAt s p))
     destination-after k h = rw destination-is h
 
+-- the sizes of a destination, of a number and of the sources of at most k rows
+module _ (x y n : ℕ) (small-x : x ≤ destinationMost) (ey : y ≡ length (numberBytes n)) where
+  pub size-two : Fits w64 (x + y)
+  size-two = omega (arith, bytes-few n)
+
+  module _ (z k : ℕ) (small : z ≤ k * sourceMost) where
+    pub size-three : k ≤ rowListBytes → Fits w64 (x + y + z)
+    size-three h = omega (arith, bytes-few n)
+
+    pub size-small : 0 < k → x + y + z ≤ k * rowMost
+    size-small h = omega (arith, bytes-few n)
+
 -- a destination with its rows
 module _ (s : Text) (l : List ℕ) (p : ℕ) (ep : p ≡ getD l 0 0) where
   abbrev text : Text
@@ -217,19 +234,8 @@ module _ (s : Text) (l : List ℕ) (p : ℕ) (ep : p ≡ getD l 0 0) where
   unfolding listedAt listedBytes sourcesAt
   listed-pieces = rw (← ep, length-map l (rowAt s))
 
-  module _ (x y z : ℕ) (small-x : x ≤ 1048579) (ey : y ≡ length (numberBytes (length l))) where
-    pub size-two : Fits w64 (x + y)
-    size-two = omega (arith, bytes-few (length l))
-
-    module _ (small : z ≤ 1099521064960) where
-      pub size-three : Fits w64 (x + y + z)
-      size-three = omega (arith, bytes-few (length l))
-
-      pub size-small : x + y + z ≤ 2000000000000
-      size-small = omega (arith, bytes-few (length l))
-
-      pub size-whole : x ≡ length (textBytes (destinationAt s p)) → z ≡ length (sourcesAt s l) → x + y + z ≡ length (listedAt s l)
-      size-whole ex ez = omega (arith, ap length listed-pieces, length-append text (numberBytes (length l) ++ sourcesAt s l), length-append (numberBytes (length l)) (sourcesAt s l))
+  pub size-whole : (x y z : ℕ) → x ≡ length (textBytes (destinationAt s p)) → y ≡ length (numberBytes (length l)) → z ≡ length (sourcesAt s l) → x + y + z ≡ length (listedAt s l)
+  size-whole x y z ex ey ez = omega (arith, ap length listed-pieces, length-append text (numberBytes (length l) ++ sourcesAt s l), length-append (numberBytes (length l)) (sourcesAt s l))
 
   head-pieces : headAt s l ≡ text ++ numberBytes (length l)
   unfolding headAt
@@ -262,26 +268,9 @@ module _ (s : Text) (l : List ℕ) (p : ℕ) (ep : p ≡ getD l 0 0) where
         pub head-after : j ≡ end + length (headAt s l)
         head-after = written-place o end head o₂ j [] second refl
 
--- the sizes of `counted_size`: x the destination's, y the count's, z the sources'
-module _ (s : Text) (l : List ℕ) (run : OneRun s l) (count : ℕ) (ec : count ≡ length (firstsAt s l)) (p : ℕ) (ep : p ≡ getD l 0 0) (x y z : ℕ) (small-x : x ≤ 1048579) (ey : y ≡ length (numberBytes count)) where
-  firsts-y : y ≡ length (numberBytes (length (firstsAt s l)))
-  firsts-y = rw (← ec) ey
-
-  firsts-p : p ≡ getD (firstsAt s l) 0 0
-  firsts-p = ep ∙ sym (firsts-first s l)
-
-  pub counted-two : Fits w64 (x + y)
-  counted-two = size-two s (firstsAt s l) p firsts-p x y z small-x firsts-y
-
-  module _ (small : z ≤ 1099521064960) where
-    pub counted-three : Fits w64 (x + y + z)
-    counted-three = size-three s (firstsAt s l) p firsts-p x y z small-x firsts-y small
-
-    pub counted-small : x + y + z ≤ 2000000000000
-    counted-small = size-small s (firstsAt s l) p firsts-p x y z small-x firsts-y small
-
-    pub counted-whole : 2 ≤ count → x ≡ length (textBytes (destinationAt s p)) → z ≡ length (sourcesAt s (firstsAt s l)) → x + y + z ≡ length (runBytes s l)
-    counted-whole h ex ez = size-whole s (firstsAt s l) p firsts-p x y z small-x firsts-y small ex ez ∙ ap length (sym (listed s l run count ec h))
+-- `counted_size`: the destination, how many sources, and the sources
+pub counted-whole : (s : Text) (l : List ℕ) → OneRun s l → (count : ℕ) → count ≡ length (firstsAt s l) → (p : ℕ) → p ≡ getD l 0 0 → (x y z : ℕ) → 2 ≤ count → x ≡ length (textBytes (destinationAt s p)) → y ≡ length (numberBytes count) → z ≡ length (sourcesAt s (firstsAt s l)) → x + y + z ≡ length (runBytes s l)
+counted-whole s l run count ec p ep x y z h ex ey ez = size-whole s (firstsAt s l) p (ep ∙ sym (firsts-first s l)) x y z ex (rw (← ec) ey) ez ∙ ap length (sym (listed s l run count ec h))
 
 -- the head, then the sources
 module _ (s : Text) (l : List ℕ) (o : Text) (end : ℕ) (fits : end + length (listedAt s l) ≤ length o) where

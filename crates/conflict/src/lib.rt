@@ -3,7 +3,9 @@ ghost use mathlib.Core.Path.{_≡_};
 ghost use Prim.Native.Nat.{_+_, _*_, _≤_, _<_};
 ghost use lib.ListN.{length};
 ghost use Rattle.buffer.specs.Splice.{splice};
+ghost use Rattle.meaning.specs.Limits.{rowListBytes};
 ghost use Rattle.meaning.specs.Number.{textBytes};
+ghost use Rattle.conflict.specs.Sizes.{destinationMost, sourceMost, rowMost};
 ghost use Rattle.conflict.specs.Shared.{destinationAt, OneRun, runBytes, headAt, listedAt, sourcesAt, firstsAt};
 
 mod sources;
@@ -21,8 +23,8 @@ use sources::wide;
 
 // How many bytes the destination of the row at a place takes with its length.
 fn destination_size(rows: &[u8], p: usize) -> usize
-    requires { ⌜ length (now rows) ≤ 1048576 ⌝ }
-    ensures { λ r. ⌜ (r ≡ length (textBytes (destinationAt (now (rows .entry)) p))) × (r ≤ 1048579) ⌝ }
+    requires { ⌜ length (now rows) ≤ rowListBytes ⌝ }
+    ensures { λ r. ⌜ (r ≡ length (textBytes (destinationAt (now (rows .entry)) p))) × (r ≤ destinationMost) ⌝ }
 {
     let row = fields(rows, p);
     let len = row.dst_len;
@@ -31,7 +33,7 @@ fn destination_size(rows: &[u8], p: usize) -> usize
 
 // Writes the destination of the row at a place with its length, and answers the place after it.
 fn put_destination(out: &mut [u8], to: usize, rows: &[u8], p: usize) -> usize
-    requires { ⌜ (length (now rows) ≤ 1048576) × (to + length (textBytes (destinationAt (now rows) p)) ≤ length (now out)) ⌝ }
+    requires { ⌜ (length (now rows) ≤ rowListBytes) × (to + length (textBytes (destinationAt (now rows) p)) ≤ length (now out)) ⌝ }
     ensures { λ r. ⌜ (now (out .exit) ≡ splice (now (out .entry)) to (textBytes (destinationAt (now (rows .entry)) p))) × (r ≡ to + length (textBytes (destinationAt (now (rows .entry)) p))) ⌝ }
 {
     let row = fields(rows, p);
@@ -40,8 +42,8 @@ fn put_destination(out: &mut [u8], to: usize, rows: &[u8], p: usize) -> usize
 
 // How many bytes a destination takes with the rows at places, each of which has another source.
 fn listed_size(rows: &[u8], firsts: &[u32]) -> usize
-    requires { ⌜ (0 < length (now firsts)) × (length (now rows) ≤ 1048576) × (length (now firsts) ≤ 1048576) ⌝ }
-    ensures { λ r. ⌜ (r ≡ length (listedAt (now (rows .entry)) (now (firsts .entry)))) × (r ≤ 2000000000000) ⌝ }
+    requires { ⌜ (0 < length (now firsts)) × (length (now rows) ≤ rowListBytes) × (length (now firsts) ≤ rowListBytes) ⌝ }
+    ensures { λ r. ⌜ (r ≡ length (listedAt (now (rows .entry)) (now (firsts .entry)))) × (r ≤ length (now (firsts .entry)) * rowMost) ⌝ }
 {
     let count = firsts.len();
     let head = destination_size(rows, wide(firsts[0]));
@@ -50,7 +52,7 @@ fn listed_size(rows: &[u8], firsts: &[u32]) -> usize
 
 // Writes the destination of the rows at places and how many they are, and answers the place after them.
 fn put_head(out: &mut [u8], to: usize, rows: &[u8], firsts: &[u32]) -> usize
-    requires { ⌜ (0 < length (now firsts)) × (length (now rows) ≤ 1048576) × (length (now firsts) ≤ 1048576) × (to + length (headAt (now rows) (now firsts)) ≤ length (now out)) ⌝ }
+    requires { ⌜ (0 < length (now firsts)) × (length (now rows) ≤ rowListBytes) × (length (now firsts) ≤ rowListBytes) × (to + length (headAt (now rows) (now firsts)) ≤ length (now out)) ⌝ }
     ensures { λ r. ⌜ (now (out .exit) ≡ splice (now (out .entry)) to (headAt (now (rows .entry)) (now (firsts .entry)))) × (r ≡ to + length (headAt (now (rows .entry)) (now (firsts .entry)))) ⌝ }
 {
     let count = firsts.len();
@@ -60,7 +62,7 @@ fn put_head(out: &mut [u8], to: usize, rows: &[u8], firsts: &[u32]) -> usize
 
 // Writes a destination with the rows at places: itself, how many, and their sources. Answers the place after them.
 fn put_listed(out: &mut [u8], to: usize, rows: &[u8], firsts: &[u32]) -> usize
-    requires { ⌜ (0 < length (now firsts)) × (length (now rows) ≤ 1048576) × (length (now firsts) ≤ 1048576) × (to + length (listedAt (now rows) (now firsts)) ≤ length (now out)) ⌝ }
+    requires { ⌜ (0 < length (now firsts)) × (length (now rows) ≤ rowListBytes) × (length (now firsts) ≤ rowListBytes) × (to + length (listedAt (now rows) (now firsts)) ≤ length (now out)) ⌝ }
     ensures { λ r. ⌜ (now (out .exit) ≡ splice (now (out .entry)) to (listedAt (now (rows .entry)) (now (firsts .entry)))) × (r ≡ to + length (listedAt (now (rows .entry)) (now (firsts .entry)))) ⌝ }
 {
     let i = put_head(out, to, rows, firsts);
@@ -69,8 +71,8 @@ fn put_listed(out: &mut [u8], to: usize, rows: &[u8], firsts: &[u32]) -> usize
 
 // How many bytes the conflict of a run of two takes; 0 where both have one source.
 fn pair_size(rows: &[u8], run: &[u32]) -> usize
-    requires { ⌜ OneRun (now rows) (now run) × (length (now run) ≡ 2) × (length (now rows) ≤ 1048576) ⌝ }
-    ensures { λ r. ⌜ (r ≡ length (runBytes (now (rows .entry)) (now (run .entry)))) × (r ≤ 2000000000000) ⌝ }
+    requires { ⌜ OneRun (now rows) (now run) × (length (now run) ≡ 2) × (length (now rows) ≤ rowListBytes) ⌝ }
+    ensures { λ r. ⌜ (r ≡ length (runBytes (now (rows .entry)) (now (run .entry)))) × (r ≤ length (now (run .entry)) * rowMost) ⌝ }
 {
     let count = pair_firsts(rows, Key::Source, run);
     if count < 2 {
@@ -81,8 +83,8 @@ fn pair_size(rows: &[u8], run: &[u32]) -> usize
 
 // How many bytes the conflict of a run takes that has so many sources, which take so many bytes.
 fn counted_size(rows: &[u8], run: &[u32], sources: usize, size: usize) -> usize
-    requires { ⌜ OneRun (now rows) (now run) × (0 < length (now run)) × (length (now rows) ≤ 1048576) × (length (now run) ≤ 1048576) × (sources ≡ length (firstsAt (now rows) (now run))) × (sources ≤ length (now run)) × (size ≡ length (sourcesAt (now rows) (firstsAt (now rows) (now run)))) × (size ≤ 1099521064960) ⌝ }
-    ensures { λ r. ⌜ (r ≡ length (runBytes (now (rows .entry)) (now (run .entry)))) × (r ≤ 2000000000000) ⌝ }
+    requires { ⌜ OneRun (now rows) (now run) × (0 < length (now run)) × (length (now rows) ≤ rowListBytes) × (length (now run) ≤ rowListBytes) × (sources ≡ length (firstsAt (now rows) (now run))) × (sources ≤ length (now run)) × (size ≡ length (sourcesAt (now rows) (firstsAt (now rows) (now run)))) × (size ≤ length (now run) * sourceMost) ⌝ }
+    ensures { λ r. ⌜ (r ≡ length (runBytes (now (rows .entry)) (now (run .entry)))) × (r ≤ length (now (run .entry)) * rowMost) ⌝ }
 {
     if sources < 2 {
         return 0;
@@ -93,8 +95,8 @@ fn counted_size(rows: &[u8], run: &[u32], sources: usize, size: usize) -> usize
 
 // How many bytes the conflict of a run takes, by a sort that brings the rows of a source together, and one back to place order.
 fn sorted_run_size(rows: &[u8], run: &mut [u32], scratch: &mut [u32]) -> usize
-    requires { ⌜ OneRun (now rows) (now run) × (0 < length (now run)) × (length (now rows) ≤ 1048576) × (length (now run) ≤ 1048576) × (length (now run) ≤ 2 * length (now scratch) + 1) ⌝ }
-    ensures { λ r. ⌜ (r ≡ length (runBytes (now (rows .entry)) (now (run .entry)))) × (r ≤ 2000000000000) × (now (run .exit) ≡ now (run .entry)) ⌝ }
+    requires { ⌜ OneRun (now rows) (now run) × (0 < length (now run)) × (length (now rows) ≤ rowListBytes) × (length (now run) ≤ rowListBytes) × (length (now run) ≤ 2 * length (now scratch) + 1) ⌝ }
+    ensures { λ r. ⌜ (r ≡ length (runBytes (now (rows .entry)) (now (run .entry)))) × (r ≤ length (now (run .entry)) * rowMost) × (now (run .exit) ≡ now (run .entry)) ⌝ }
 {
     sort(rows, Key::Source, run, scratch);
     let heads = heads_size(rows, run);
@@ -104,8 +106,8 @@ fn sorted_run_size(rows: &[u8], run: &mut [u32], scratch: &mut [u32]) -> usize
 
 // How many bytes the conflict of a run takes; 0 where all its rows have one source. The run is left as it was.
 pub fn run_size(rows: &[u8], run: &mut [u32], scratch: &mut [u32]) -> usize
-    requires { ⌜ OneRun (now rows) (now run) × (0 < length (now run)) × (length (now rows) ≤ 1048576) × (length (now run) ≤ 1048576) × (length (now run) ≤ 2 * length (now scratch) + 1) ⌝ }
-    ensures { λ r. ⌜ (r ≡ length (runBytes (now (rows .entry)) (now (run .entry)))) × (r ≤ 2000000000000) × (now (run .exit) ≡ now (run .entry)) ⌝ }
+    requires { ⌜ OneRun (now rows) (now run) × (0 < length (now run)) × (length (now rows) ≤ rowListBytes) × (length (now run) ≤ rowListBytes) × (length (now run) ≤ 2 * length (now scratch) + 1) ⌝ }
+    ensures { λ r. ⌜ (r ≡ length (runBytes (now (rows .entry)) (now (run .entry)))) × (r ≤ length (now (run .entry)) * rowMost) × (now (run .exit) ≡ now (run .entry)) ⌝ }
 {
     if run.len() < 2 {
         return 0;
@@ -124,7 +126,7 @@ pub fn put_run(
     run: &mut [u32],
     scratch: &mut [u32],
 ) -> usize
-    requires { ⌜ OneRun (now rows) (now run) × (0 < length (now run)) × (length (now rows) ≤ 1048576) × (length (now run) ≤ 1048576) × (length (now run) ≤ 2 * length (now scratch) + 1) × (to + length (runBytes (now rows) (now run)) ≤ length (now out)) ⌝ }
+    requires { ⌜ OneRun (now rows) (now run) × (0 < length (now run)) × (length (now rows) ≤ rowListBytes) × (length (now run) ≤ rowListBytes) × (length (now run) ≤ 2 * length (now scratch) + 1) × (to + length (runBytes (now rows) (now run)) ≤ length (now out)) ⌝ }
     ensures { λ r. ⌜ (now (out .exit) ≡ splice (now (out .entry)) to (runBytes (now (rows .entry)) (now (run .entry)))) × (r ≡ to + length (runBytes (now (rows .entry)) (now (run .entry)))) ⌝ }
 {
     if run.len() < 2 {

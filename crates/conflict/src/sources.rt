@@ -1,10 +1,12 @@
 // The sources of the rows at places: measured and written.
 ghost use mathlib.Core.Path.{_≡_};
-ghost use Prim.Native.Nat.{_+_, _≤_};
+ghost use Prim.Native.Nat.{_+_, _*_, _≤_};
 ghost use lib.ListN.{length};
 ghost use Rattle.buffer.specs.Splice.{splice};
 ghost use Rattle.parse.specs.Places.{partAt};
+ghost use Rattle.meaning.specs.Limits.{rowListBytes};
 ghost use Rattle.meaning.specs.Number.{textBytes};
+ghost use Rattle.conflict.specs.Sizes.{sourceMost};
 ghost use Rattle.conflict.specs.Shared.{sourceAt, sourcesAt, Heads};
 use keys::fields::fields;
 use keys::key::Key;
@@ -25,7 +27,7 @@ pub(crate) fn wide(p: u32) -> usize
 
 // Writes the length of a text of a row list and its bytes, and answers the place after them.
 pub(crate) fn put_text(out: &mut [u8], at: usize, rows: &[u8], start: usize, len: usize) -> usize
-    requires { ⌜ (start + len ≤ length (now rows)) × (length (now rows) ≤ 1048576) × (at + length (textBytes (partAt (now rows) start len)) ≤ length (now out)) ⌝ }
+    requires { ⌜ (start + len ≤ length (now rows)) × (length (now rows) ≤ rowListBytes) × (at + length (textBytes (partAt (now rows) start len)) ≤ length (now out)) ⌝ }
     ensures { λ r. ⌜ (now (out .exit) ≡ splice (now (out .entry)) at (textBytes (partAt (now (rows .entry)) start len))) × (r ≡ at + length (textBytes (partAt (now (rows .entry)) start len))) ⌝ }
 {
     let i = number::put(out, at, len);
@@ -35,8 +37,8 @@ pub(crate) fn put_text(out: &mut [u8], at: usize, rows: &[u8], start: usize, len
 
 // How many bytes the source of the row at a place takes in a conflict.
 fn source_size(rows: &[u8], p: usize) -> usize
-    requires { ⌜ length (now rows) ≤ 1048576 ⌝ }
-    ensures { λ r. ⌜ (r ≡ length (sourceAt (now (rows .entry)) p)) × (r ≤ 1048585) ⌝ }
+    requires { ⌜ length (now rows) ≤ rowListBytes ⌝ }
+    ensures { λ r. ⌜ (r ≡ length (sourceAt (now (rows .entry)) p)) × (r ≤ sourceMost) ⌝ }
 {
     let row = fields(rows, p);
     let numbers = number::size(row.spec) + number::size(row.kind);
@@ -46,7 +48,7 @@ fn source_size(rows: &[u8], p: usize) -> usize
 
 // Writes the source of the row at a place, and answers the place after it.
 fn put_source(out: &mut [u8], to: usize, rows: &[u8], p: usize) -> usize
-    requires { ⌜ (length (now rows) ≤ 1048576) × (to + length (sourceAt (now rows) p) ≤ length (now out)) ⌝ }
+    requires { ⌜ (length (now rows) ≤ rowListBytes) × (to + length (sourceAt (now rows) p) ≤ length (now out)) ⌝ }
     ensures { λ r. ⌜ (now (out .exit) ≡ splice (now (out .entry)) to (sourceAt (now (rows .entry)) p)) × (r ≡ to + length (sourceAt (now (rows .entry)) p)) ⌝ }
 {
     let row = fields(rows, p);
@@ -57,8 +59,8 @@ fn put_source(out: &mut [u8], to: usize, rows: &[u8], p: usize) -> usize
 
 // How many bytes the sources of the rows at places take.
 pub(crate) fn sources_size(rows: &[u8], places: &[u32]) -> usize
-    requires { ⌜ (length (now rows) ≤ 1048576) × (length (now places) ≤ 1048576) ⌝ }
-    ensures { λ r. ⌜ (r ≡ length (sourcesAt (now (rows .entry)) (now (places .entry)))) × (r ≤ 1099521064960) ⌝ }
+    requires { ⌜ (length (now rows) ≤ rowListBytes) × (length (now places) ≤ rowListBytes) ⌝ }
+    ensures { λ r. ⌜ (r ≡ length (sourcesAt (now (rows .entry)) (now (places .entry)))) × (r ≤ length (now (places .entry)) * sourceMost) ⌝ }
 {
     let mut size = 0;
     let mut i = 0;
@@ -71,7 +73,7 @@ pub(crate) fn sources_size(rows: &[u8], places: &[u32]) -> usize
 
 // Writes the sources of the rows at places, and answers the place after them.
 pub(crate) fn put_sources(out: &mut [u8], start: usize, rows: &[u8], places: &[u32]) -> usize
-    requires { ⌜ (length (now rows) ≤ 1048576) × (start + length (sourcesAt (now rows) (now places)) ≤ length (now out)) ⌝ }
+    requires { ⌜ (length (now rows) ≤ rowListBytes) × (start + length (sourcesAt (now rows) (now places)) ≤ length (now out)) ⌝ }
     ensures { λ r. ⌜ (now (out .exit) ≡ splice (now (out .entry)) start (sourcesAt (now (rows .entry)) (now (places .entry)))) × (r ≡ start + length (sourcesAt (now (rows .entry)) (now (places .entry)))) ⌝ }
 {
     let mut to = start;
@@ -85,7 +87,7 @@ pub(crate) fn put_sources(out: &mut [u8], start: usize, rows: &[u8], places: &[u
 
 // How many sources there are at places sorted by source, and how many bytes they take, each once.
 pub(crate) fn heads_size(rows: &[u8], places: &[u32]) -> HeadsSize
-    requires { ⌜ (length (now rows) ≤ 1048576) × (length (now places) ≤ 1048576) ⌝ }
+    requires { ⌜ (length (now rows) ≤ rowListBytes) × (length (now places) ≤ rowListBytes) ⌝ }
     ensures { λ h. ⌜ Heads (now (rows .entry)) (now (places .entry)) h ⌝ }
 {
     let mut count = 0;

@@ -8,6 +8,7 @@ use native.Mathlib.Omega.{arith}
 use lib.ListN.{length, take, drop, set, length-set, length-drop}
 use lib.Seq.{take-suc-set, length-take-le}
 use Rattle.meaning.specs.Bytes.{Text, keep, present}
+use Rattle.meaning.specs.Limits.{rowListBytes}
 use Rattle.meaning.specs.Number.{took, need, give}
 use Rattle.meaning.specs.Rows as meaning
 use Rattle.promises.proofs.Members.{step-took}
@@ -31,7 +32,7 @@ pub pushed : (d : List ℕ) (n at r : ℕ) → r ≡ at → set d n r ≡ set d 
 pushed d n at r e = ap (set d n) e
 
 -- a side by its case
-module _ (dst : Side) (w : InList 1048576 dst) (d : List ℕ) (n at : ℕ) where
+module _ (dst : Side) (w : InList rowListBytes dst) (d : List ℕ) (n at : ℕ) where
   pub store-absent : dst ≡ Absent → Stored d n at dst d n
   store-absent e = rw e (refl, refl)
 
@@ -153,13 +154,13 @@ module _ (specs : ℕ) (s : Text) (d₀ d : List ℕ) (at n : ℕ) (m : Filling 
     pub filling-room : length (rowsIn specs s) ≤ length d₀ → n < length d
     filling-room h = omega (arith, m .few, one-more, m .same-long)
 
-    pub filling-place : at ≤ 1048576
+    pub filling-place : at ≤ rowListBytes
     filling-place = omega (arith, there .here, m .here .short)
 
-    pub filling-side : InList 1048576 (row .dst)
+    pub filling-side : InList rowListBytes (row .dst)
     filling-side = go (row .dst) (next-destination specs s at (m .passed) (m .here) w stands says row next e)
       where
-        go : (side : Side) → InList (length s) side → InList 1048576 side
+        go : (side : Side) → InList (length s) side → InList rowListBytes side
         go Absent i = tt
         go (Part a b) i = omega (arith, m .here .short)
         go Head i = i
@@ -222,7 +223,7 @@ module _ (d₀ d : List ℕ) (n : ℕ) (few : n ≤ length d₀) (same : length 
   pub filled-count : n ≡ length (take n d)
   filled-count = sym (length-take-le n d (rw same few))
 
-  pub filled-small : length d₀ ≤ 1048576 → length (take n d) ≤ 1048576
+  pub filled-small : length d₀ ≤ rowListBytes → length (take n d) ≤ rowListBytes
   filled-small h = omega (arith, filled-count)
 
   pub filled-room : (room : ℕ) → length d₀ ≤ 2 * room + 1 → length (take n d) ≤ 2 * room + 1

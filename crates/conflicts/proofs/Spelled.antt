@@ -1,4 +1,4 @@
--- How many rows a row list has room for: each takes five bytes at least. Assumes nothing.
+-- How many rows a row list has room for: each takes `rowLeast` bytes at least. Assumes nothing.
 use mathlib.Core.Path.{_≡_, refl, ap, _∙_}
 use mathlib.Core.Bool.{true}
 use mathlib.Core.List.{List, [], _∷_, _++_}
@@ -19,13 +19,14 @@ use Rattle.promises.proofs.Spelling.{one-spelling}
 use Rattle.number.specs.Reading.{Octets}
 use Rattle.row_list.proofs.RowStages.{octets-of}
 use Rattle.conflicts.specs.Listed.{rowsIn, RowsRead}
+use Rattle.conflicts.specs.Rooms.{rowLeast, manyRows}
 use Rattle.conflicts.proofs.Walks.{list-short}
 
 destination-long : (o : Option Text) → 0 < length (destinationBytes o)
 destination-long none = number-long 0
 destination-long (some t) = omega (arith, number-long (suc (length t)), length-append (numberBytes (suc (length t))) t)
 
-row-long : (r : Row) → 5 ≤ length (rowBytes r)
+row-long : (r : Row) → rowLeast ≤ length (rowBytes r)
 unfolding rowBytes textBytes
 row-long r =
     let d = destinationBytes (r .destination) in
@@ -53,11 +54,11 @@ all-bytes (x ∷ s) o = and-both (lt-ltb x 256 (o 0)) (all-bytes s (λ i. o (suc
 pub spelled : (specs : ℕ) (s : Text) → RowsRead specs s → ((i : ℕ) → Fits w8 (getD s i 0)) → s ≡ rowListOf (rowsIn specs s)
 spelled specs s r o = one-spelling .1 specs s (r .list) (all-bytes s (octets-of s o)) (r .reads) ∙ ap rowListOf (rw (r .reads))
 
-rows-long : (l : List Row) → 5 * length l ≤ length (rowListOf l)
+rows-long : (l : List Row) → rowLeast * length l ≤ length (rowListOf l)
 unfolding rowListOf
 rows-long [] = omega arith
 rows-long (r ∷ l) = omega (arith, row-long r, rows-long l, length-append (rowBytes r) (each l rowBytes))
 
 -- room for the rows of any list
-pub many-room : (specs : ℕ) (s : Text) → RowsRead specs s → ((i : ℕ) → Fits w8 (getD s i 0)) → (d : List ℕ) → length d ≡ 209716 → length (rowsIn specs s) ≤ length d
+pub many-room : (specs : ℕ) (s : Text) → RowsRead specs s → ((i : ℕ) → Fits w8 (getD s i 0)) → (d : List ℕ) → length d ≡ manyRows → length (rowsIn specs s) ≤ length d
 many-room specs s r o d e = omega (arith, list-short specs s r, ap length (spelled specs s r o), rows-long (rowsIn specs s))

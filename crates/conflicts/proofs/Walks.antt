@@ -9,6 +9,7 @@ use native.Mathlib.Numerals.{add-one}
 use lib.Dec.{ltb}
 use lib.ListN.{length, drop}
 use Rattle.meaning.specs.Bytes.{Text}
+use Rattle.meaning.specs.Limits.{rowListBytes}
 use Rattle.meaning.specs.Spec.{accepted}
 use Rattle.meaning.specs.Number.{Step, took, no}
 use Rattle.meaning.specs.Rows as meaning
@@ -28,14 +29,14 @@ use Rattle.conflicts.specs.Listed.{rowsIn, RowsRead, InList}
 -- where the cursor stands: j rows are behind it
 pub record At (specs : ℕ) (s : Text) (at j : ℕ) : Type 0 where
   pub left : RowsLeft specs s at j (drop j (rowsIn specs s))
-  pub short : length s ≤ 1048576
+  pub short : length s ≤ rowListBytes
 
-rows-short : (specs : ℕ) (s : Text) (l : List meaning.Row) → meaning.readRows specs s ≡ accepted l → length s ≤ 1048576
+rows-short : (specs : ℕ) (s : Text) (l : List meaning.Row) → meaning.readRows specs s ≡ accepted l → length s ≤ rowListBytes
 unfolding meaning.readRows
-rows-short specs s l e = accepted-within 1048576 (meaning.rowRecord specs) s l e
+rows-short specs s l e = accepted-within rowListBytes (meaning.rowRecord specs) s l e
 
 module _ (specs : ℕ) (s : Text) (r : RowsRead specs s) where
-  pub list-short : length s ≤ 1048576
+  pub list-short : length s ≤ rowListBytes
   list-short = rows-short specs s (r .list) (r .reads)
 
   pub at-start : (at : ℕ) → at ≡ 0 → At specs s at 0

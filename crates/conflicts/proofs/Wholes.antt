@@ -13,6 +13,7 @@ use borrow.Rule.Slice.PartMut.{putMid, mid-len, put-same, drop-put, same-len-mid
 use lib.ListN.{length, getD, take, drop, length-append}
 use lib.Seq.{drop-drop}
 use Rattle.meaning.specs.Bytes.{Text, keep, each, present, inOrder}
+use Rattle.meaning.specs.Limits.{rowListBytes}
 use Rattle.meaning.specs.Number.{numberBytes, textBytes}
 use Rattle.meaning.specs.Rows.{Row}
 use Rattle.meaning.specs.Validation.{listed, destinationOf, isText, onto, rowsOnto, inConflict, Conflict, conflictOn, conflicts, sourceBytes, conflictBytes}
@@ -29,6 +30,7 @@ use Rattle.order.proofs.Keys.{keys-order}
 use Rattle.order.proofs.Runs.{group-kept}
 use Rattle.order.proofs.Heads.{ascending-keep}
 use Rattle.conflicts.specs.Listed.{rowsIn, conflictsBytes, putIfRoom}
+use Rattle.conflict.specs.Sizes.{rowMost}
 use Rattle.conflict.specs.Shared.{conflictPart}
 use Rattle.conflict.specs.Shared.{rowsAt, destinationAt, OneRun, runBytes}
 use Rattle.conflicts.specs.Indexed.{hasDestination, Given, SortedIndex}
@@ -207,7 +209,7 @@ module _ (s : Text) (d : List ℕ) (i : ℕ) (h : Here s d i) (some : i < length
   pub run-some : 0 < length (take (end - i) (drop i d))
   run-some = omega (arith, run-long)
 
-  pub run-small : length d ≤ 1048576 → length (take (end - i) (drop i d)) ≤ 1048576
+  pub run-small : length d ≤ rowListBytes → length (take (end - i) (drop i d)) ≤ rowListBytes
   run-small k = omega (arith, run-long)
 
   pub run-room : (n : ℕ) → length d ≤ 2 * n + 1 → length (take (end - i) (drop i d)) ≤ 2 * n + 1
@@ -244,7 +246,7 @@ pub record Walking (specs : ℕ) (s : Text) (d₀ d : List ℕ) (i size : ℕ) :
   pub as-was : d ≡ d₀
   pub same-long : length d ≡ length d₀
   pub measured : size + length (walk s (drop i d)) ≡ length (conflictsBytes (rowsIn specs s))
-  pub small : size ≤ i * 2000000000000
+  pub small : size ≤ i * rowMost
 
 pub walking-starts : (specs : ℕ) (s : Text) (d : List ℕ) → SortedIndex specs s d → Walking specs s d d 0 0
 walking-starts specs s d x = record { at = here-starts specs s d x; as-was = refl; same-long = refl; measured = omega (arith, ap length (walk-whole specs s d x)); small = omega arith }
@@ -253,9 +255,9 @@ module _ (specs : ℕ) (s : Text) (d₀ d : List ℕ) (i size : ℕ) (m : Walkin
   pub walking-done : length d ≤ i → size ≡ length (conflictsBytes (rowsIn specs s))
   walking-done h = omega (arith, m .measured, ap (λ (l : List ℕ). length (walk s l)) (rest-end d i h))
 
-  module _ (some : i < length d) (end : ℕ) (run : end ≡ i + runOf (sameAt Destination s (getD d i 0)) (drop i d)) (begun : i < end) (room : end ≤ length d) (n : ℕ) (few : n ≤ 2000000000000) where
-    pub walking-fits : length d₀ ≤ 1048576 → Fits w64 (size + n)
-    walking-fits h = omega (arith, m .small, m .same-long)
+  module _ (some : i < length d) (end : ℕ) (run : end ≡ i + runOf (sameAt Destination s (getD d i 0)) (drop i d)) (begun : i < end) (room : end ≤ length d) (n : ℕ) (few : n ≤ length (take (end - i) (drop i d)) * rowMost) where
+    pub walking-fits : length d₀ ≤ rowListBytes → Fits w64 (size + n)
+    walking-fits h = omega (arith, m .small, m .same-long, mid-len i end d room)
 
     pub walking-more : n ≡ length (runBytes s (take (end - i) (drop i d))) → (ys : List ℕ) → ys ≡ take (end - i) (drop i d) → Walking specs s d₀ (putMid i (end - i) d ys) end (size + n)
     walking-more e ys kept =
@@ -268,7 +270,7 @@ module _ (specs : ℕ) (s : Text) (d₀ d : List ℕ) (i size : ℕ) (m : Walkin
               let w = walk-on s d i (m .at) some end run begun room in
               let b = back-drop s d i (m .at) some end run begun room ys same in
               omega (arith, m .measured, ap length w, length-append (runBytes s (take (end - i) (drop i d))) (walk s (drop end d)), ap (λ (l : List ℕ). length (walk s l)) b);
-          small = omega (arith, m .small);
+          small = omega (arith, m .small, mid-len i end d room);
         }
 
 -- the runs before a position are written

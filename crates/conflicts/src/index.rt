@@ -2,6 +2,7 @@
 ghost use mathlib.Core.Path.{_≡_};
 ghost use Prim.Native.Nat.{_+_, _*_, _≤_, _<_};
 ghost use lib.ListN.{length, take, set};
+ghost use Rattle.meaning.specs.Limits.{rowListBytes};
 ghost use Rattle.buffer.specs.Splice.{splice};
 ghost use Rattle.conflicts.specs.Listed.{rowsIn, RowsRead, conflictsBytes, putIfRoom, InList};
 ghost use Rattle.conflicts.specs.Indexed.{Indexed, SortedIndex, Stored};
@@ -17,7 +18,7 @@ use row_list::next_row;
 
 // A place of a row list as it stands in an index.
 fn narrow(at: usize) -> u32
-    requires { ⌜ at ≤ 1048576 ⌝ }
+    requires { ⌜ at ≤ rowListBytes ⌝ }
     ensures { λ r. ⌜ r ≡ at ⌝ }
 {
     at as u32
@@ -25,7 +26,7 @@ fn narrow(at: usize) -> u32
 
 // Stores a place after n others, and answers how many there are.
 fn push(index: &mut [u32], n: usize, at: usize) -> usize
-    requires { ⌜ (n < length (now index)) × (at ≤ 1048576) ⌝ }
+    requires { ⌜ (n < length (now index)) × (at ≤ rowListBytes) ⌝ }
     ensures { λ r. ⌜ (now (index .exit) ≡ set (now (index .entry)) n at) × (r ≡ n + 1) ⌝ }
 {
     index[n] = narrow(at);
@@ -34,7 +35,7 @@ fn push(index: &mut [u32], n: usize, at: usize) -> usize
 
 // Stores the place of a row after n others, if the row has a destination, and answers how many there are.
 fn store(index: &mut [u32], n: usize, at: usize, dst: Side) -> usize
-    requires { ⌜ (n < length (now index)) × (at ≤ 1048576) × InList 1048576 dst ⌝ }
+    requires { ⌜ (n < length (now index)) × (at ≤ rowListBytes) × InList rowListBytes dst ⌝ }
     ensures { λ r. ⌜ Stored (now (index .entry)) n at dst (now (index .exit)) r ⌝ }
 {
     match dst {
@@ -71,7 +72,7 @@ fn fill(rows: &[u8], specs: usize, index: &mut [u32]) -> usize
 
 // How many bytes the conflicts of a sorted index take, run by run. The index is left as it was.
 fn sorted_size(rows: &[u8], specs: usize, index: &mut [u32], scratch: &mut [u32]) -> usize
-    requires { ⌜ RowsRead specs (now rows) × SortedIndex specs (now rows) (now index) × (length (now index) ≤ 1048576) × (length (now index) ≤ 2 * length (now scratch) + 1) ⌝ }
+    requires { ⌜ RowsRead specs (now rows) × SortedIndex specs (now rows) (now index) × (length (now index) ≤ rowListBytes) × (length (now index) ≤ 2 * length (now scratch) + 1) ⌝ }
     ensures { λ r. ⌜ (r ≡ length (conflictsBytes (rowsIn specs (now (rows .entry))))) × (now (index .exit) ≡ now (index .entry)) ⌝ }
 {
     let mut size = 0;
@@ -86,7 +87,7 @@ fn sorted_size(rows: &[u8], specs: usize, index: &mut [u32], scratch: &mut [u32]
 
 // Writes the conflicts of a sorted index at the start of a buffer, run by run.
 fn put_sorted(out: &mut [u8], rows: &[u8], specs: usize, index: &mut [u32], scratch: &mut [u32])
-    requires { ⌜ RowsRead specs (now rows) × SortedIndex specs (now rows) (now index) × (length (now index) ≤ 1048576) × (length (now index) ≤ 2 * length (now scratch) + 1) × (length (conflictsBytes (rowsIn specs (now rows))) ≤ length (now out)) ⌝ }
+    requires { ⌜ RowsRead specs (now rows) × SortedIndex specs (now rows) (now index) × (length (now index) ≤ rowListBytes) × (length (now index) ≤ 2 * length (now scratch) + 1) × (length (conflictsBytes (rowsIn specs (now rows))) ≤ length (now out)) ⌝ }
     ensures { λ _. ⌜ now (out .exit) ≡ splice (now (out .entry)) 0 (conflictsBytes (rowsIn specs (now (rows .entry)))) ⌝ }
 {
     let mut to = 0;
@@ -106,7 +107,7 @@ fn put_if_room(
     index: &mut [u32],
     scratch: &mut [u32],
 ) -> usize
-    requires { ⌜ RowsRead specs (now rows) × SortedIndex specs (now rows) (now index) × (length (now index) ≤ 1048576) × (length (now index) ≤ 2 * length (now scratch) + 1) ⌝ }
+    requires { ⌜ RowsRead specs (now rows) × SortedIndex specs (now rows) (now index) × (length (now index) ≤ rowListBytes) × (length (now index) ≤ 2 * length (now scratch) + 1) ⌝ }
     ensures { λ r. ⌜ (r ≡ length (conflictsBytes (rowsIn specs (now (rows .entry))))) × (now (out .exit) ≡ putIfRoom (now (out .entry)) (conflictsBytes (rowsIn specs (now (rows .entry))))) ⌝ }
 {
     let size = sorted_size(rows, specs, index, scratch);
@@ -128,7 +129,7 @@ fn put_filled(
     index: &mut [u32],
     scratch: &mut [u32],
 ) -> usize
-    requires { ⌜ RowsRead specs (now rows) × Indexed specs (now rows) (now index) × (length (now index) ≤ 1048576) × (length (now index) ≤ 2 * length (now scratch) + 1) ⌝ }
+    requires { ⌜ RowsRead specs (now rows) × Indexed specs (now rows) (now index) × (length (now index) ≤ rowListBytes) × (length (now index) ≤ 2 * length (now scratch) + 1) ⌝ }
     ensures { λ r. ⌜ (r ≡ length (conflictsBytes (rowsIn specs (now (rows .entry))))) × (now (out .exit) ≡ putIfRoom (now (out .entry)) (conflictsBytes (rowsIn specs (now (rows .entry))))) ⌝ }
 {
     sort(rows, Key::Destination, index, scratch);
@@ -143,7 +144,7 @@ pub(crate) fn put_indexed(
     index: &mut [u32],
     scratch: &mut [u32],
 ) -> usize
-    requires { ⌜ RowsRead specs (now rows) × (length (rowsIn specs (now rows)) ≤ length (now index)) × (length (now index) ≤ 1048576) × (length (now index) ≤ 2 * length (now scratch) + 1) ⌝ }
+    requires { ⌜ RowsRead specs (now rows) × (length (rowsIn specs (now rows)) ≤ length (now index)) × (length (now index) ≤ rowListBytes) × (length (now index) ≤ 2 * length (now scratch) + 1) ⌝ }
     ensures { λ r. ⌜ (r ≡ length (conflictsBytes (rowsIn specs (now (rows .entry))))) × (now (out .exit) ≡ putIfRoom (now (out .entry)) (conflictsBytes (rowsIn specs (now (rows .entry))))) ⌝ }
 {
     let n = fill(rows, specs, index);

@@ -7,14 +7,11 @@ ghost use Rattle.conflicts.specs.Listed.{rowsIn, RowsRead, conflictsByte
 mod index;
 mod rooms;
 
+use rooms::FEW;
+use rooms::SOME;
 use rooms::put_few;
 use rooms::put_many;
 use rooms::put_some;
-
-// How many rows a small and a larger index have room for.
-const FEW: usize = 1024;
-
-const SOME: usize = 16384;
 
 // Writes the conflicts of a list of so many rows at the start of a buffer that has room for them, and answers how many bytes they take; 0
 // where there is none.

@@ -1,17 +1,31 @@
-// Room for an index on the stack: small for few rows, so that little is cleared, and as much as the longest list needs.
+// Room for an index on the stack: small for few rows, so that little is cleared, and as much as the longest list needs. The scratch of a
+// sort has half as much.
 ghost use mathlib.Core.Path.{_≡_};
 ghost use Prim.Native.Nat.{_≤_};
 ghost use lib.ListN.{length};
 ghost use Rattle.conflicts.specs.Listed.{rowsIn, RowsRead, conflictsBytes, putIfRoom};
+ghost use Rattle.conflicts.specs.Rooms.{fewRows, someRows};
 use super::index::put_indexed;
+use limits::ROW_LIST_BYTES;
 
-// The conflicts of a list of at most 1,024 rows.
+// How many rows a small and a larger index have room for.
+pub(crate) const FEW: usize = 1024;
+
+pub(crate) const SOME: usize = 16384;
+
+// The fewest bytes of a row.
+const ROW_LEAST: usize = 5;
+
+// More rows than any list has.
+const MANY: usize = ROW_LIST_BYTES / ROW_LEAST + 1;
+
+// The conflicts of a list of few rows.
 pub(crate) fn put_few(out: &mut [u8], rows: &[u8], specs: usize) -> usize
-    requires { ⌜ RowsRead specs (now rows) × (length (rowsIn specs (now rows)) ≤ 1024) ⌝ }
+    requires { ⌜ RowsRead specs (now rows) × (length (rowsIn specs (now rows)) ≤ fewRows) ⌝ }
     ensures { λ r. ⌜ (r ≡ length (conflictsBytes (rowsIn specs (now (rows .entry))))) × (now (out .exit) ≡ putIfRoom (now (out .entry)) (conflictsBytes (rowsIn specs (now (rows .entry))))) ⌝ }
 {
-    let mut index = [0u32; 1024];
-    let mut scratch = [0u32; 512];
+    let mut index = [0u32; FEW];
+    let mut scratch = [0u32; FEW / 2];
     put_indexed(out, rows, specs, &mut index, &mut scratch)
 }
 
@@ -20,22 +34,22 @@ fn put_some_in(
     out: &mut [u8],
     rows: &[u8],
     specs: usize,
-    index: &mut [u32; 16384],
-    scratch: &mut [u32; 8192],
+    index: &mut [u32; SOME],
+    scratch: &mut [u32; SOME / 2],
 ) -> usize
-    requires { ⌜ RowsRead specs (now rows) × (length (rowsIn specs (now rows)) ≤ 16384) ⌝ }
+    requires { ⌜ RowsRead specs (now rows) × (length (rowsIn specs (now rows)) ≤ someRows) ⌝ }
     ensures { λ r. ⌜ (r ≡ length (conflictsBytes (rowsIn specs (now (rows .entry))))) × (now (out .exit) ≡ putIfRoom (now (out .entry)) (conflictsBytes (rowsIn specs (now (rows .entry))))) ⌝ }
 {
     put_indexed(out, rows, specs, index, scratch)
 }
 
-// The conflicts of a list of at most 16,384 rows.
+// The conflicts of a list of more rows than few.
 pub(crate) fn put_some(out: &mut [u8], rows: &[u8], specs: usize) -> usize
-    requires { ⌜ RowsRead specs (now rows) × (length (rowsIn specs (now rows)) ≤ 16384) ⌝ }
+    requires { ⌜ RowsRead specs (now rows) × (length (rowsIn specs (now rows)) ≤ someRows) ⌝ }
     ensures { λ r. ⌜ (r ≡ length (conflictsBytes (rowsIn specs (now (rows .entry))))) × (now (out .exit) ≡ putIfRoom (now (out .entry)) (conflictsBytes (rowsIn specs (now (rows .entry))))) ⌝ }
 {
-    let mut index = [0u32; 16384];
-    let mut scratch = [0u32; 8192];
+    let mut index = [0u32; SOME];
+    let mut scratch = [0u32; SOME / 2];
     put_some_in(out, rows, specs, &mut index, &mut scratch)
 }
 
@@ -44,8 +58,8 @@ fn put_many_in(
     out: &mut [u8],
     rows: &[u8],
     specs: usize,
-    index: &mut [u32; 209716],
-    scratch: &mut [u32; 104858],
+    index: &mut [u32; MANY],
+    scratch: &mut [u32; MANY / 2],
 ) -> usize
     requires { ⌜ RowsRead specs (now rows) ⌝ }
     ensures { λ r. ⌜ (r ≡ length (conflictsBytes (rowsIn specs (now (rows .entry))))) × (now (out .exit) ≡ putIfRoom (now (out .entry)) (conflictsBytes (rowsIn specs (now (rows .entry))))) ⌝ }
@@ -58,7 +72,7 @@ pub(crate) fn put_many(out: &mut [u8], rows: &[u8], specs: usize) -> usize
     requires { ⌜ RowsRead specs (now rows) ⌝ }
     ensures { λ r. ⌜ (r ≡ length (conflictsBytes (rowsIn specs (now (rows .entry))))) × (now (out .exit) ≡ putIfRoom (now (out .entry)) (conflictsBytes (rowsIn specs (now (rows .entry))))) ⌝ }
 {
-    let mut index = [0u32; 209716];
-    let mut scratch = [0u32; 104858];
+    let mut index = [0u32; MANY];
+    let mut scratch = [0u32; MANY / 2];
     put_many_in(out, rows, specs, &mut index, &mut scratch)
 }

@@ -10,6 +10,7 @@ use mir.Syntax.{w64}
 use lib.ListN.{length, take, drop, length-append, length-drop}
 use lib.Seq.{length-take-le}
 use Rattle.meaning.specs.Bytes.{Text, each}
+use Rattle.meaning.specs.Limits.{rowListBytes, numberGroups}
 use Rattle.meaning.specs.Number.{numberBytes, textBytes}
 use Rattle.meaning.specs.Rows.{Row, destinationBytes, rowBytes}
 use Rattle.meaning.specs.Validation.{isFull, fixBy, fixBytes}
@@ -21,7 +22,7 @@ use Rattle.number.proofs.Bytes.{bytes-few}
 use Rattle.parse.specs.declared.types.Side.{Side}
 use Rattle.parse.specs.declared.types.Side.the-variants.{Absent, Part, Head}
 use Rattle.parse.specs.Places.{partAt, sideMeant}
-use Rattle.kept.specs.Rows.{fixOn, fixFor, rowFix}
+use Rattle.kept.specs.Rows.{fixOn, fixNumbers, fixFor, rowFix}
 
 -- the bytes of a destination as they are lent
 abbrev pub nameAt : Text → ℕ → ℕ → Text
@@ -43,7 +44,7 @@ module _ (t : Text) (i : ℕ) (b : Bool) (e : b ≡ isFull t) (h : b ≡ true) w
   full-end to = rw full-none (omega arith)
 
 -- one that is partial gives its fix
-module _ (s : Text) (at n i : ℕ) (inside : at + n ≤ length s) (short : length s ≤ 1048576) (b : Bool) (e : b ≡ isFull (partAt s at n)) (h : b ≡ false) where
+module _ (s : Text) (at n i : ℕ) (inside : at + n ≤ length s) (short : length s ≤ rowListBytes) (b : Bool) (e : b ≡ isFull (partAt s at n)) (h : b ≡ false) where
   long : length (partAt s at n) ≡ n
   long = length-take-le n (drop at s) (rw (length-drop at s) (omega arith))
 
@@ -57,7 +58,7 @@ module _ (s : Text) (at n i : ℕ) (inside : at + n ≤ length s) (short : lengt
     pub fix-size : a + n + c ≡ length (fixOn i (partAt s at n))
     fix-size = omega (arith, ap length pieces, length-append (numberBytes n) (partAt s at n ++ numberBytes i), length-append (partAt s at n) (numberBytes i), long)
 
-    pub fix-small : a + n + c ≤ length s + 6
+    pub fix-small : a + n + c ≤ length s + fixNumbers
     fix-small = omega (arith, bytes-few n, bytes-few i)
 
     pub fix-fits : Fits w64 (a + n + c)
@@ -142,7 +143,7 @@ module _ (s : Text) (i : ℕ) (side : Side) where
       part-end r f = f ∙ ap (λ (x : Text). to + length x) (sym (part-for at n e))
 
 -- a fix is no longer than its row, which has the same destination, four numbers more and the spec number
-fix-long : (i : ℕ) (t : Text) → length (fixBytes (record { name = t; spec = i })) ≤ 3 + length t + length (numberBytes i)
+fix-long : (i : ℕ) (t : Text) → length (fixBytes (record { name = t; spec = i })) ≤ numberGroups + length t + length (numberBytes i)
 unfolding fixBytes textBytes
 fix-long i t = omega (arith, bytes-few (length t), length-append (numberBytes (length t) ++ t) (numberBytes i), length-append (numberBytes (length t)) t)
 

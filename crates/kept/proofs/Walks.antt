@@ -10,6 +10,7 @@ use mir.Val.{Fits}
 use mir.Syntax.{w8, w64}
 use lib.ListN.{length, getD, length-append}
 use Rattle.meaning.specs.Bytes.{Text, keep, each}
+use Rattle.meaning.specs.Limits.{rowListBytes, largestNumber}
 use Rattle.meaning.specs.Spec.{accepted}
 use Rattle.meaning.specs.Rows as meaning
 use Rattle.meaning.specs.Validation.{isKept, fixOf, fixBytes}
@@ -25,7 +26,7 @@ use Rattle.row_list.proofs.RowWalks.{RowsLeft, rows-left, RowNext, rows-next, r
 use Rattle.conflicts.specs.Listed.{rowsIn, RowsRead}
 use Rattle.conflicts.proofs.Walks.{list-short}
 use Rattle.conflicts.proofs.Spelled.{spelled}
-use Rattle.kept.specs.Rows.{keptBytes, fixFor, rowFix}
+use Rattle.kept.specs.Rows.{keptBytes, fixNumbers, fixFor, rowFix}
 use Rattle.kept.proofs.Fixes.{fix-shorter}
 
 -- what the rows give, row by row
@@ -80,7 +81,7 @@ rows-are specs s l e = rw e
 -- where a walk stands: the rows that are left
 pub record Walk (specs : ℕ) (s : Text) (at number : ℕ) (rest : List meaning.Row) : Type 0 where
   pub left : RowsLeft specs s at number rest
-  pub short : length s ≤ 1048576
+  pub short : length s ≤ rowListBytes
 
 -- what the rows behind take is measured
 pub record Counted (specs : ℕ) (s : Text) (f : meaning.Row → Text) (at size : ℕ) : Type 0 where
@@ -88,7 +89,7 @@ pub record Counted (specs : ℕ) (s : Text) (f : meaning.Row → Text) (at size 
   pub rest : List meaning.Row
   pub walk : Walk specs s at number rest
   pub done : size + length (each rest f) ≡ length (each (rowsIn specs s) f)
-  pub small : size ≤ number * 1048582
+  pub small : size ≤ number * (rowListBytes + fixNumbers)
 
 -- what they give is written
 pub record Written (specs : ℕ) (s : Text) (f : meaning.Row → Text) (d : Text) (at : ℕ) (out : Text) (to : ℕ) : Type 0 where
@@ -108,7 +109,7 @@ module _ (specs : ℕ) (s : Text) (at : ℕ) (w : RowStep) (says : RowSays specs
   pub row-dst : Within (length s) (row .dst)
   row-dst = row-taken .dst-within
 
-  pub row-spec : row .spec ≤ 2097151
+  pub row-spec : row .spec ≤ largestNumber
   row-spec = row-taken .spec-small
 
   -- and what is left after it
@@ -123,18 +124,18 @@ module _ (specs : ℕ) (s : Text) (at : ℕ) (w : RowStep) (says : RowSays specs
     next-text f = ap (λ (l : List meaning.Row). each l f) (next-row .is)
 
 -- measured
-pub within-more : (n len : ℕ) → n ≤ len → n ≤ len + 6
+pub within-more : (n len : ℕ) → n ≤ len → n ≤ len + fixNumbers
 within-more n len h = omega arith
 
 pub counted-starts : (specs : ℕ) (s : Text) (f : meaning.Row → Text) → RowsRead specs s → (at : ℕ) → at ≡ 0 → Counted specs s f at 0
 counted-starts specs s f r at e = rw e (record { number = 0; rest = rowsIn specs s; walk = walk-starts specs s r; done = omega arith; small = omega arith })
 
 module _ (specs : ℕ) (s : Text) (f : meaning.Row → Text) (at size : ℕ) (c : Counted specs s f at size) where
-  pub counted-short : length s ≤ 1048576
+  pub counted-short : length s ≤ rowListBytes
   counted-short = c .walk .short
 
   module _ (w : RowStep) (says : RowSays specs s at w) where
-    module _ (row : RowPlace) (next : Cursor) (e : w ≡ Row row next) (n : ℕ) (small : n ≤ length s + 6) where
+    module _ (row : RowPlace) (next : Cursor) (e : w ≡ Row row next) (n : ℕ) (small : n ≤ length s + fixNumbers) where
       pub counted-more : n ≡ length (f (rowMeant s row)) → Counted specs s f (next .at) (size + n)
       counted-more en =
           let r = next-row specs s at w says row next e (c .number) (c .rest) (c .walk) in
@@ -165,7 +166,7 @@ module _ (specs : ℕ) (s : Text) (at size : ℕ) (w : RowStep) (says : RowSays 
     kept-refused n e = counted-none specs s keptBytes at size c w says n e
 
   module _ (c : Counted specs s rowFix at size) where
-    pub fix-counted : (row : RowPlace) (next : Cursor) → w ≡ Row row next → (n : ℕ) → n ≤ length s + 6 → n ≡ length (fixFor (row .spec) (sideMeant s (row .dst))) → Counted specs s rowFix (next .at) (size + n)
+    pub fix-counted : (row : RowPlace) (next : Cursor) → w ≡ Row row next → (n : ℕ) → n ≤ length s + fixNumbers → n ≡ length (fixFor (row .spec) (sideMeant s (row .dst))) → Counted specs s rowFix (next .at) (size + n)
     unfolding rowFix rowMeant
     fix-counted row next e n h en = counted-more specs s rowFix at size c w says row next e n h en
 
@@ -186,7 +187,7 @@ pub fixes-starts : (specs : ℕ) (s : Text) → RowsRead specs s → (d : Text) 
 fixes-starts specs s r d h at e = written-starts specs s rowFix r d (rw (← fixes-each (rowsIn specs s)) h) at e
 
 module _ (specs : ℕ) (s : Text) (f : meaning.Row → Text) (d : Text) (at : ℕ) (out : Text) (to : ℕ) (c : Written specs s f d at out to) where
-  pub written-short : length s ≤ 1048576
+  pub written-short : length s ≤ rowListBytes
   written-short = c .walk .short
 
   pub written-kept : length out ≡ length d

@@ -1,5 +1,5 @@
 -- `conflict::counted_size` meets its contract: fewer than two sources are no conflict.
-use Rattle.conflict.proofs.Shares.{few-none, counted-two, counted-three, counted-small, counted-whole}
+use Rattle.conflict.proofs.Shares.{few-none, size-two, size-three, size-small, counted-whole}
 use borrow.Author.Needs.{needs}
 use Rattle.conflict.proofs.counted_size.Statement.{statement}
 use Rattle.conflict.proofs.counted_size.Tie as tie
@@ -20,13 +20,13 @@ size-requires : tie.Need-size-requires
 size-requires c κs = search needs
 
 add-result : tie.Need-add-result
-add-result c = search counted-two
+add-result c = search size-two
 
 add-result-2 : tie.Need-add-result-2
-add-result-2 c = search counted-three
+add-result-2 c = search size-three
 
 returns-2 : tie.Need-returns-2
-returns-2 c = (search counted-whole, search counted-small)
+returns-2 c = (search counted-whole, search size-small)
 
 pub counted-size-spec : {M : Type 1} → statement M
 counted-size-spec =
