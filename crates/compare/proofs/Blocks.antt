@@ -10,8 +10,8 @@ use lib.ListN.{length, getD, drop, length-drop}
 use lib.Seq.{drop-drop}
 use Rattle.meaning.specs.Bytes.{Text, _and_, begins}
 use Rattle.promises.proofs.Laws.{and-left, and-right}
-use Rattle.eights.specs.Word.{number}
-use Rattle.eights.proofs.Words.{Bytes, bytes-tail, bytes-drop, number-less}
+use Rattle.compare.specs.Word.{number}
+use Rattle.compare.proofs.Words.{Bytes, bytes-tail, bytes-drop, number-less}
 use Rattle.text.proofs.Rests.{rest-cons, rest-end}
 use Rattle.text.proofs.Scans.{byte-is, byte-other}
 

@@ -3,8 +3,12 @@ ghost use mathlib.Core.Path.{_≡_};
 ghost use Prim.Native.Nat.{_+_, _<_, _≤_};
 ghost use lib.ListN.{length, drop};
 ghost use Rattle.meaning.specs.Bytes.{_and_, same, begins, ends};
-use eights::half;
-use eights::word;
+
+pub mod order;
+pub mod word;
+
+use word::half;
+use word::word;
 
 // s begins with p, which is no longer, byte by byte.
 fn begins_by_bytes(s: &[u8], p: &[u8]) -> bool

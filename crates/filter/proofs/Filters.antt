@@ -13,7 +13,7 @@ use Rattle.meaning.specs.Bytes.{Text, bytes, _and_, any, same, begins, ends}
 use Rattle.meaning.specs.Limits.{nameBytes, specListBytes}
 use Rattle.meaning.specs.Prefix.{candidates}
 use Rattle.meaning.specs.Match.{miss, capture, pattern, Form}
-use Rattle.eights.specs.Word.{number}
+use Rattle.compare.specs.Word.{number}
 use Rattle.promises.proofs.Laws.{same-is}
 use Rattle.compare.proofs.Sames.{begins-whole, same-other-length}
 use Rattle.compare.proofs.Blocks.{begins-number}

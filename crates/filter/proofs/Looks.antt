@@ -9,7 +9,7 @@ use lib.Dec.{eqb, leb}
 use lib.ListN.{length, take, drop, getD}
 use lib.Seq.{drop-drop}
 use Rattle.meaning.specs.Bytes.{Text, _and_}
-use Rattle.eights.specs.Word.{number}
+use Rattle.compare.specs.Word.{number}
 use Rattle.parse.specs.Places.{partAt}
 use Rattle.parse.proofs.Parts.{part-length}
 use Rattle.filter.specs.declared.Filter.{Filter}

@@ -10,7 +10,7 @@ use Rattle.meaning.specs.Bytes.{Text, _and_, _or_}
 use Rattle.meaning.specs.Limits.{nameBytes}
 use Rattle.meaning.specs.Spec.{Spec}
 use Rattle.meaning.specs.Listing.{forwardEnds, reverseEnds}
-use Rattle.eights.specs.Word.{number}
+use Rattle.compare.specs.Word.{number}
 use Rattle.parse.specs.declared.types.Side.{Side}
 use Rattle.parse.specs.declared.types.Side.the-variants.{Absent, Part, Head}
 use Rattle.parse.specs.Places.{partAt}

@@ -51,7 +51,7 @@ fn alike(specs: &[u8], at: usize, len: usize, least: usize, most: usize) -> Filt
         return sized(least, most, false);
     }
     let from = len - 8;
-    let word = eights::word(specs, at + from);
+    let word = compare::word::word(specs, at + from);
     Filter {
         least,
         most,
@@ -170,7 +170,7 @@ fn passes(f: Filter, items: &[u8], start: usize, n: usize) -> bool
         return false;
     }
     if f.worded {
-        return eights::word(items, start + f.from) == f.word;
+        return compare::word::word(items, start + f.from) == f.word;
     }
     if f.framed {
         return frame_adds(n - f.least);

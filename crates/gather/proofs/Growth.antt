@@ -11,9 +11,9 @@ use Rattle.meaning.specs.Number.{textBytes, recordBytes}
 use Rattle.buffer.specs.Splice.{splice}
 use Rattle.buffer.proofs.Splices.{splice-none}
 use Rattle.text.proofs.Rests.{rest-part}
-use Rattle.lines.specs.declared.Line.{Line}
-use Rattle.lines.specs.declared.Line.the-variants.{Nothing, Fetch, Push, Name, Unknown}
-use Rattle.lines.specs.Line.{Held, nothing, unknown, fetch, push, name, heldIn, Tells}
+use Rattle.gather.specs.declared.line.Line.{Line}
+use Rattle.gather.specs.declared.line.Line.the-variants.{Nothing, Fetch, Push, Name, Unknown}
+use Rattle.gather.specs.Line.{Held, nothing, unknown, fetch, push, name, heldIn, Tells}
 use Rattle.gather.specs.declared.Lists.{Lists}
 use Rattle.gather.specs.Gather.{specReason, nameReason, reasonOf, specsIn, namesIn}
 use Rattle.gather.specs.Growing.{Room, stopped, unlessRefused, Grows, SpecAdds, NameAdds, LineAdds}

@@ -16,7 +16,7 @@ use Rattle.meaning.specs.Deliveries.{header, withinLimit, printed, output}
 use Rattle.promises.proofs.Accepted.{read-passed}
 use Rattle.promises.proofs.Laws.{in-append, in-cons, map-same}
 use Rattle.promises.proofs.Members.{specs-written, items-written}
-use Rattle.lines.specs.Line.{Held, nothing, unknown, fetch, push, name, heldIn}
+use Rattle.gather.specs.Line.{Held, nothing, unknown, fetch, push, name, heldIn}
 use Rattle.gather.specs.Gather.{linesOf, reasonOf, specsIn, namesIn, unlessStopped, gather, gathered}
 use Rattle.gather.specs.Facts.{listing, ReadsBack}
 use Rattle.gather.proofs.Reasons.{spec-passes, name-passes}

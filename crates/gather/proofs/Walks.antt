@@ -9,7 +9,7 @@ use Rattle.meaning.specs.Number.{textBytes, recordBytes}
 use Rattle.text.specs.Place.{firstAt}
 use Rattle.buffer.specs.Splice.{splice}
 use Rattle.buffer.proofs.Splices.{splice-none, splice-next, length-splice}
-use Rattle.lines.specs.Line.{Held, heldIn}
+use Rattle.gather.specs.Line.{Held, heldIn}
 use Rattle.gather.specs.declared.Lists.{Lists}
 use Rattle.gather.specs.Gather.{linesOf, reasonOf, specsIn, namesIn, Gathering, unlessStopped, gather, gathered}
 use Rattle.gather.specs.Growing.{Room, unlessRefused, Grows, LineAdds, Gathers}

@@ -8,7 +8,7 @@ use Rattle.meaning.specs.Bytes.{Text}
 use Rattle.meaning.specs.Limits.{specListBytes, specCount, itemCount, nameBytes}
 use Rattle.meaning.specs.Spec.{_else_then_, specRefusal}
 use Rattle.meaning.specs.Number.{textBytes, recordBytes}
-use Rattle.lines.specs.Line.{Held, nothing, unknown, fetch, push, name, heldIn}
+use Rattle.gather.specs.Line.{Held, nothing, unknown, fetch, push, name, heldIn}
 
 -- what parts lines
 abbrev pub lineFeed : ℕ

@@ -7,7 +7,7 @@ use Rattle.meaning.specs.Bytes.{Text}
 use Rattle.meaning.specs.Limits.{specListBytes}
 use Rattle.meaning.specs.Number.{recordBytes}
 use Rattle.buffer.specs.Splice.{splice}
-use Rattle.lines.specs.Line.{Held}
+use Rattle.gather.specs.Line.{Held}
 use Rattle.gather.specs.declared.Lists.{Lists}
 use Rattle.gather.specs.declared.Gathered.{Gathered}
 use Rattle.gather.specs.Gather.{specReason, nameReason, reasonOf, specsIn, namesIn, Gathering}

@@ -1,5 +1,6 @@
--- `Gather`: what the lines of a text give; `Samples`: some of it, computed. `Growing`: two lists that grow in their buffers. `Facts`: the
--- lists are read back.
+-- `Line`: what a line of text holds. `Gather`: what the lines of a text give; `Samples`: some of it, computed. `Growing`: two lists that
+-- grow in their buffers. `Facts`: the lists are read back.
+pub mod Line
 pub mod Gather
 pub mod Samples
 pub mod Growing

@@ -4,7 +4,7 @@ use mathlib.Core.List.{List, [], _∷_, _++_}
 use Prim.Native.Nat.{ℕ}
 use Rattle.meaning.specs.Bytes.{Text, bytes}
 use Rattle.meaning.specs.Everything.{everything}
-use Rattle.lines.specs.Line.{heldIn}
+use Rattle.gather.specs.Line.{heldIn}
 use Rattle.gather.specs.Gather.{lineFeed, linesOf, roomReason, specReason, nameReason, Gathering, gathered}
 
 -- a line with its line feed before the rest of its text

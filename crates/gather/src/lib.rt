@@ -5,16 +5,19 @@ ghost use lib.ListN.{length};
 ghost use Rattle.meaning.specs.Limits.{specListBytes, programBytes};
 ghost use Rattle.meaning.specs.Number.{textBytes};
 ghost use Rattle.buffer.specs.Splice.{splice};
-ghost use Rattle.lines.specs.Line.{heldIn};
+ghost use Rattle.gather.specs.Line.{heldIn};
 ghost use Rattle.gather.specs.Gather.{roomReason, specReason, nameReason, gathered};
 ghost use Rattle.gather.specs.Growing.{stopped, Room, SpecAdds, NameAdds, LineAdds, Gathers};
 use limits::ITEM_COUNT;
 use limits::NAME_BYTES;
 use limits::SPEC_COUNT;
 use limits::SPEC_LIST_BYTES;
-use lines::Line;
-use lines::classify;
 use parse::Parsed;
+
+pub mod line;
+
+use line::Line;
+use line::classify;
 
 // Reasons of our own: only a fetch is listed; a line is none of the known kinds.
 pub const PUSH: u64 = 101;

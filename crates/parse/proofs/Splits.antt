@@ -12,8 +12,8 @@ use lib.ListN.{length, getD, take, drop, length-take, length-drop}
 use Rattle.meaning.specs.Bytes.{Text, bytes, colon, same}
 use Rattle.meaning.specs.Spec.{Mode, isNegative, modeOfByte, modeOf, unsigned, Sides, one, two, sidesOf, hasColon}
 use Rattle.text.proofs.Rests.{rest-part}
-use Rattle.last.proofs.Sides.{sides-one, sides-two}
-use Rattle.last.specs.Last.{pastLast}
+use Rattle.text.proofs.Sides.{sides-one, sides-two}
+use Rattle.text.specs.Last.{pastLast}
 use Rattle.parse.specs.declared.types.Mode as code
 use Rattle.parse.specs.declared.types.Mode.the-variants.{Normal, Force, Negative}
 use Rattle.parse.specs.declared.types.Side.{Side}

@@ -2,9 +2,9 @@
 // names are passed over.
 ghost use Prim.Native.Nat.{_≤_};
 ghost use lib.ListN.{length};
+use gather::line::Line;
+use gather::line::classify;
 use libc::STDIN_FILENO;
-use lines::Line;
-use lines::classify;
 
 mod print;
 mod show;

@@ -1,4 +1,4 @@
--- `eights::word::eight_agree` meets its contract: eight bytes are the same where their numbers are.
+-- `compare::eight_agree` meets its contract: eight bytes are the same where their numbers are.
 use Rattle.compare.proofs.Blocks.{block-decides}
 use borrow.Author.Needs.{needs}
 use Rattle.compare.proofs.eight_agree.Statement.{statement}

@@ -1,4 +1,4 @@
--- `eights::word::four_agree` meets its contract: four bytes are the same where their numbers are.
+-- `compare::four_agree` meets its contract: four bytes are the same where their numbers are.
 use Rattle.compare.proofs.Blocks.{block-decides}
 use borrow.Author.Needs.{needs}
 use Rattle.compare.proofs.four_agree.Statement.{statement}

@@ -1,2 +1,0 @@
--- `Orders`: byte order.
-pub mod Orders

@@ -1,2 +1,0 @@
--- `Words`: several bytes as one number.
-pub mod Words

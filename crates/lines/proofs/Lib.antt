@@ -1,2 +1,0 @@
--- `Laws`: the branches of the questions about a line.
-pub mod Laws

@@ -1,2 +1,0 @@
--- `Line`: what a line of text holds.
-pub mod Line
