@@ -8,7 +8,7 @@ use mir.Syntax.{w64}
 use lib.Dec.{lit≤}
 use lib.ListN.{length, take, drop, getD, length-append, length-take}
 use Rattle.meaning.specs.Bytes.{Text, bytes}
-use Rattle.meaning.specs.Limits.{specListBytes, largestNumber}
+use Rattle.meaning.specs.Limits.{specListBytes, largestNumber, numberGroups}
 use Rattle.meaning.specs.Number.{numberBytes, textBytes, recordBytes}
 use Rattle.meaning.specs.Prefix.{framed, candidates}
 use Rattle.buffer.specs.Splice.{splice}
@@ -135,8 +135,11 @@ module _ (t : Text) (k : ℕ) (h : k < 6) (leading : Text) (n trailing : ℕ) (f
 pub candidate-number : (t : Text) (k : ℕ) → k < 6 → length t ≤ specListBytes → (n : ℕ) → n ≡ length (candidate k t) → n ≤ largestNumber
 candidate-number t k h l n e = omega (arith, candidate-short t k h)
 
--- a record has at most twenty-one bytes more than the name
-pub record-short : (t : Text) (k : ℕ) → k < 6 → length (textBytes (candidate k t)) ≤ length t + 21
+-- a record has at most so many bytes more than the name: the longest frame, and a number
+abbrev pub recordAdds : ℕ
+recordAdds = 18 + numberGroups
+
+pub record-short : (t : Text) (k : ℕ) → k < 6 → length (textBytes (candidate k t)) ≤ length t + recordAdds
 record-short t k h = omega (arith, text-size (candidate k t) (length (candidate k t)) refl (length (numberBytes (length (candidate k t)))) refl, bytes-few (length (candidate k t)), candidate-short t k h)
 
 -- so a machine's number holds its size, however its number is written
@@ -146,7 +149,7 @@ record-fits t k h l n e m j g = omega (arith, bytes-few j, candidate-short t k h
 -- the records are measured as far as number k
 pub record Measured (t : Text) (size k : ℕ) : Type 0 where
   pub count : k ≤ 6
-  pub small : size ≤ 65556 * k
+  pub small : size ≤ (specListBytes + recordAdds) * k
   pub whole : size + length (recordBytes (drop k (candidates t))) ≡ length (recordBytes (candidates t))
 
 -- nothing is measured at the start

@@ -8,6 +8,7 @@ use native.Mathlib.Omega.{arith}
 use lib.Dec.{leb, ltb}
 use lib.ListN.{length, take, drop}
 use Rattle.meaning.specs.Bytes.{Text}
+use Rattle.meaning.specs.Limits.{nameBytes, specListBytes, itemListBytes, rowListBytes, specCount, itemCount}
 use Rattle.meaning.specs.Spec.{Answer, accepted, refused, specRefusal, specOf, unless, readSpec}
 use Rattle.meaning.specs.Number.{Step, took, no, Reader, stepThen, _>>=_, give, need, readNumber, readBytes, readText}
 use Rattle.meaning.specs.Lists.{withFirst, recordThen, recordsFrom, answered, readList, specRecord, itemRecord, readSpecs, readItems}
@@ -83,11 +84,11 @@ positive-row =
 -- what one record is refused with
 pub specs-positive : (op i : ℕ) → Positive (specRecord op i)
 unfolding specRecord readSpec
-specs-positive op i = positive-need 14 (ltb i 256) _ (omega arith) (positive-then readText (λ t. answered (readSpec op t)) positive-text (λ t. positive-unless (specRefusal op t) (specOf op t)))
+specs-positive op i = positive-need 14 (ltb i specCount) _ (omega arith) (positive-then readText (λ t. answered (readSpec op t)) positive-text (λ t. positive-unless (specRefusal op t) (specOf op t)))
 
 items-positive : (i : ℕ) → Positive (itemRecord i)
 unfolding itemRecord
-items-positive i = positive-need 14 (ltb i 1024) _ (omega arith) (positive-then readText _ positive-text (λ t. positive-need 15 (leb (length t) 4096) (give t) (omega arith) (positive-give t)))
+items-positive i = positive-need 14 (ltb i itemCount) _ (omega arith) (positive-then readText _ positive-text (λ t. positive-need 15 (leb (length t) nameBytes) (give t) (omega arith) (positive-give t)))
 
 rows-positive : (specs i : ℕ) → Positive (rowRecord specs i)
 unfolding rowRecord
@@ -121,14 +122,14 @@ pub specs-refusal : (op : ℕ) (s : Text) (n : ℕ) (r : Option ℕ) → readSpe
 unfolding readSpecs
 specs-refusal op s n r e = go (leb op 1) e
   where
-    go : (b : Bool) → cond b (readList 65535 (specRecord op) s) (refused 18 none) ≡ refused n r → 0 < n
-    go true f = list-refusal (specRecord op) (specs-positive op) 65535 s n r f
+    go : (b : Bool) → cond b (readList specListBytes (specRecord op) s) (refused 18 none) ≡ refused n r → 0 < n
+    go true f = list-refusal (specRecord op) (specs-positive op) specListBytes s n r f
     go false f = let q : 18 ≡ n = cc in omega arith
 
 pub items-refusal : (s : Text) (n : ℕ) (r : Option ℕ) → readItems s ≡ refused n r → 0 < n
 unfolding readItems
-items-refusal s n r e = list-refusal itemRecord items-positive 65535 s n r e
+items-refusal s n r e = list-refusal itemRecord items-positive itemListBytes s n r e
 
 pub rows-refusal : (specs : ℕ) (s : Text) (n : ℕ) (r : Option ℕ) → readRows specs s ≡ refused n r → 0 < n
 unfolding readRows
-rows-refusal specs s n r e = list-refusal (rowRecord specs) (rows-positive specs) 1048576 s n r e
+rows-refusal specs s n r e = list-refusal (rowRecord specs) (rows-positive specs) rowListBytes s n r e

@@ -9,6 +9,7 @@ use borrow.Author.Tests.{lt-ltb, le-ltb, ltb-true, ltb-false, leb-true, leb-fals
 use lib.Dec.{leb, ltb}
 use lib.ListN.{length, take, drop}
 use Rattle.meaning.specs.Bytes.{Text}
+use Rattle.meaning.specs.Limits.{nameBytes, itemListBytes, itemCount}
 use Rattle.meaning.specs.Spec.{accepted, refused}
 use Rattle.meaning.specs.Number as meaning
 use Rattle.meaning.specs.Lists.{itemRecord, readItems}
@@ -101,19 +102,19 @@ step-refused s at n e = says-of s at (Refused n) e
 pub record ItemsLeft (items : Text) (at j : ℕ) (rest : List Text) : Type 0 where
   pub within : at ≤ length items
   pub reads : records itemRecord j (drop at items) ≡ accepted rest
-  pub count : j + length rest ≤ 1024
+  pub count : j + length rest ≤ itemCount
 
 -- the whole list, at its start
 pub items-left : (items : Text) (names : List Text) → readItems items ≡ accepted names → ItemsLeft items 0 0 names
 unfolding readItems
-items-left items names e = record { within = omega arith; reads = accepted-records 65535 itemRecord items names e; count = omega (arith, names-count items names e) }
+items-left items names e = record { within = omega arith; reads = accepted-records itemListBytes itemRecord items names e; count = omega (arith, names-count items names e) }
 
 -- the next item: what is left is its name before what is left after it
 pub record ItemNext (items : Text) (start len at′ j : ℕ) (rest : List Text) : Type 0 where
   pub after : List Text
   pub is : rest ≡ take len (drop start items) ∷ after
   pub left : ItemsLeft items at′ (suc j) after
-  pub short : length (take len (drop start items)) ≤ 4096
+  pub short : length (take len (drop start items)) ≤ nameBytes
   pub inside : start + len ≤ length items
 
 module _ (items : Text) (at j : ℕ) (rest : List Text) (l : ItemsLeft items at j rest) where
@@ -124,7 +125,7 @@ module _ (items : Text) (at j : ℕ) (rest : List Text) (l : ItemsLeft items at 
       absurd (let z : _≡_ {A = ℕ} 0 1 = cc in omega arith)
 
   pub items-next : (start len : ℕ) (next : Cursor) → stepAt items at ≡ Record start len next → ItemNext items start len (next .at) j rest
-  items-next start len next e = go (ltb j 1024) refl (leb (length name) 4096) refl
+  items-next start len next e = go (ltb j itemCount) refl (leb (length name) nameBytes) refl
     where
       name : Text
       name = take len (drop start items)
@@ -132,12 +133,12 @@ module _ (items : Text) (at j : ℕ) (rest : List Text) (l : ItemsLeft items at 
       t : Taken items at start len (next .at)
       t = step-taken items at start len next e
 
-      go : (a : Bool) → ltb j 1024 ≡ a → (b : Bool) → leb (length name) 4096 ≡ b → ItemNext items start len (next .at) j rest
-      go false h b k = not-refused 14 (t .here) (item-beyond j (drop at items) (ltb-false j 1024 h))
-      go true h false k = not-refused 15 (t .here) (item-long j (drop at items) (ltb-true j 1024 h) name (drop (next .at) items) (t .reads) (leb-false (length name) 4096 k))
+      go : (a : Bool) → ltb j itemCount ≡ a → (b : Bool) → leb (length name) nameBytes ≡ b → ItemNext items start len (next .at) j rest
+      go false h b k = not-refused 14 (t .here) (item-beyond j (drop at items) (ltb-false j itemCount h))
+      go true h false k = not-refused 15 (t .here) (item-long j (drop at items) (ltb-true j itemCount h) name (drop (next .at) items) (t .reads) (leb-false (length name) nameBytes k))
       go true h true k =
-          let short = leb-true (length name) 4096 k in
-          let q = records-took itemRecord items-shrink items at j name (drop (next .at) items) (t .here) (item-read j (drop at items) (ltb-true j 1024 h) name (drop (next .at) items) (t .reads) short) in
+          let short = leb-true (length name) nameBytes k in
+          let q = records-took itemRecord items-shrink items at j name (drop (next .at) items) (t .here) (item-read j (drop at items) (ltb-true j itemCount h) name (drop (next .at) items) (t .reads) short) in
           let f = first-of name (records itemRecord (suc j) (drop (next .at) items)) rest (sym q ∙ l .reads) in
           record {
             after = f .after;

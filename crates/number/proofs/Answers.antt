@@ -8,6 +8,7 @@ use lib.Dec.{eqb, ltb}
 use lib.ListN.{length, drop, length-drop}
 use lib.Seq.{drop-drop}
 use Rattle.meaning.specs.Bytes.{Text}
+use Rattle.meaning.specs.Limits.{numberGroups}
 use Rattle.meaning.specs.Number.{Step, took, no, stepThen, groupBefore, readGroups, readNumber}
 use Rattle.number.specs.declared.Number.the-variants.{Is, Malformed}
 use Rattle.number.specs.Reading.{placed, numberAt}
@@ -75,14 +76,14 @@ refuses (suc k) (b ∷ t) j e = go (refuses k t) (ltb b 128) e
 -- where a number is answered, it stands there
 pub number-stands : (s : Text) (at n next : ℕ) → numberAt s at ≡ Is n next → Stands s at n next
 unfolding numberAt readNumber
-number-stands s at n next e = go (readGroups 3 (drop at s)) refl e
+number-stands s at n next e = go (readGroups numberGroups (drop at s)) refl e
   where
-    go : (a : Step ℕ) → readGroups 3 (drop at s) ≡ a → placed s a ≡ Is n next → Stands s at n next
+    go : (a : Step ℕ) → readGroups numberGroups (drop at s) ≡ a → placed s a ≡ Is n next → Stands s at n next
     go (no j) f g = absurd (let z : _≡_ {A = ℕ} 0 1 = cc in omega arith)
     go (took m rest) f g =
         let p : m ≡ n = cc in
         let q : length s - length rest ≡ next = cc in
-        let l = leaves 3 (drop at s) m rest f in
+        let l = leaves numberGroups (drop at s) m rest f in
         let r : rest ≡ drop (at + l .passed) s = l .left ∙ drop-drop (l .passed) at s in
         let few : l .passed ≤ length s - at = rw (length-drop at s) at (l .few) in
         let len : length rest ≡ length s - (at + l .passed) = ap length r ∙ length-drop (at + l .passed) s in
@@ -93,8 +94,8 @@ number-stands s at n next e = go (readGroups 3 (drop at s)) refl e
 -- where none is, reading refuses
 pub number-none : (s : Text) (at : ℕ) → numberAt s at ≡ Malformed → readNumber (drop at s) ≡ no 13
 unfolding numberAt readNumber
-number-none s at e = go (readGroups 3 (drop at s)) refl e
+number-none s at e = go (readGroups numberGroups (drop at s)) refl e
   where
-    go : (a : Step ℕ) → readGroups 3 (drop at s) ≡ a → placed s a ≡ Malformed → readGroups 3 (drop at s) ≡ no 13
+    go : (a : Step ℕ) → readGroups numberGroups (drop at s) ≡ a → placed s a ≡ Malformed → readGroups numberGroups (drop at s) ≡ no 13
     go (took m rest) f g = absurd (let z : _≡_ {A = ℕ} 0 1 = cc in omega arith)
-    go (no j) f g = f ∙ ap (λ (i : ℕ). no i) (refuses 3 (drop at s) j f)
+    go (no j) f g = f ∙ ap (λ (i : ℕ). no i) (refuses numberGroups (drop at s) j f)

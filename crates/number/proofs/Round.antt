@@ -9,13 +9,13 @@ use lib.Dec.{eqb, ltb}
 use Rattle.meaning.specs.Bytes.{Text}
 use Rattle.meaning.specs.Number.{groups, numberBytes, Step, took, no, stepThen, groupBefore, readGroups, readNumber}
 use Rattle.promises.proofs.Reading.{read-number}
-use Rattle.meaning.specs.Limits.{largestNumber}
+use Rattle.meaning.specs.Limits.{largestNumber, numberGroups}
 use Rattle.number.specs.Reading.{Octets}
 use Rattle.number.proofs.Answers.{none-taken}
 
 -- the bytes of a number, whatever follows them, are read as it
 pub read-back : (n : ℕ) (rest : Text) → n ≤ largestNumber → readNumber (numberBytes n ++ rest) ≡ took n rest
-read-back n rest h = read-number n rest (omega arith)
+read-back n rest h = read-number n rest h
 
 some-power : (k : ℕ) → 0 < 128 ^ k
 some-power zero = omega arith
@@ -66,9 +66,9 @@ only (suc k) (b ∷ t) n rest o e = go (λ m r f. only k t m r (λ i. o (suc i))
 -- nothing but its bytes is read as a number
 pub read-only : (s : Text) (n : ℕ) (rest : Text) → Octets s → readNumber s ≡ took n rest → s ≡ numberBytes n ++ rest
 unfolding readNumber numberBytes
-read-only s n rest o e = only 3 s n rest o e .spelled
+read-only s n rest o e = only numberGroups s n rest o e .spelled
 
 -- and no number above the largest is read
 pub read-small : (s : Text) (n : ℕ) (rest : Text) → Octets s → readNumber s ≡ took n rest → n ≤ largestNumber
 unfolding readNumber
-read-small s n rest o e = omega (arith, only 3 s n rest o e .small)
+read-small s n rest o e = omega (arith, only numberGroups s n rest o e .small)

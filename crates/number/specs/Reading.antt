@@ -2,6 +2,7 @@
 use Prim.Native.Nat.{ℕ, _-_, _<_}
 use lib.ListN.{length, getD, drop}
 use Rattle.meaning.specs.Bytes.{Text}
+use Rattle.meaning.specs.Limits.{numberGroups}
 use Rattle.meaning.specs.Number.{Step, took, no, Reader, _>>=_, groupBefore, readGroups, readNumber}
 use Rattle.number.specs.declared.Number.{Number}
 use Rattle.number.specs.declared.Number.the-variants.{Is, Malformed}
@@ -25,8 +26,8 @@ numberAt s at = foundAt readNumber s at
 
 -- a number read on after its first group a
 abbrev pub afterOne : ℕ → Reader ℕ
-afterOne a = readGroups 2 >>= groupBefore a
+afterOne a = readGroups (numberGroups - 1) >>= groupBefore a
 
 -- a number read on after its first groups a and b
 abbrev pub afterTwo : ℕ → ℕ → Reader ℕ
-afterTwo a b = readGroups 1 >>= groupBefore b >>= groupBefore a
+afterTwo a b = readGroups (numberGroups - 2) >>= groupBefore b >>= groupBefore a

@@ -79,6 +79,9 @@ fn read_third(s: &[u8], j: usize, a: usize, b: usize) -> Number
     }
 }
 
+// Numbers below it take at most two groups.
+const TWO_GROUPS: usize = 128 * 128;
+
 // How many bytes `n` takes.
 pub fn size(n: usize) -> usize
     requires { ⌜ n ≤ largestNumber ⌝ }
@@ -87,7 +90,7 @@ pub fn size(n: usize) -> usize
     if n < 128 {
         return 1;
     }
-    if n < 16384 {
+    if n < TWO_GROUPS {
         return 2;
     }
     3

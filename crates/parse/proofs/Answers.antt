@@ -5,6 +5,7 @@ use mathlib.Core.Path.{_≡_, sym, ap, _∙_}
 use mathlib.Core.Option.{none}
 use lib.ListN.{length}
 use Rattle.meaning.specs.Bytes.{Text}
+use Rattle.meaning.specs.Limits.{specBytes}
 use Rattle.meaning.specs.Spec as meaning
 use Rattle.promises.proofs.Accepted.{read-passed}
 use Rattle.parse.specs.declared.types.RefSpec.{RefSpec}
@@ -37,6 +38,6 @@ module _ (op : ℕ) (t : Text) (p : Parsed) (ep : p ≡ parsed op t) where
     pub read-within : SidesWithin (length t) r
     read-within = rw (sym read-places) (sides-within op t)
 
-    -- and it has at most 4,096 bytes
-    pub read-size : length t ≤ 4096
+    -- and it is not longer than a spec may be
+    pub read-size : length t ≤ specBytes
     read-size = read-passed op t (specMeant t r) read-accepted .size

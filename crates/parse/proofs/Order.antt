@@ -7,6 +7,7 @@ use mathlib.Core.List.{[], _∷_}
 use borrow.Author.Tests.{ne-eqb, le-leb, lt-leb, not-true, not-false}
 use lib.ListN.{length}
 use Rattle.meaning.specs.Bytes.{Text, _and_, agree, empty, ifGiven}
+use Rattle.meaning.specs.Limits.{specBytes}
 use Rattle.meaning.specs.Spec.{_else_then_, Mode, isNegative, push, notHashLike, starsAgree, sidesRefusal}
 use Rattle.name.specs.declared.NameKind.{NameKind}
 use Rattle.parse.specs.declared.types.Side.{Side}
@@ -38,15 +39,15 @@ module _ (op : ℕ) (t : Text) where
 
   module _ (known : op ≤ 1) where
     -- too many bytes: 1
-    pub entry-1 : 4096 < length t → 1 ≡ entryRefusal op t
+    pub entry-1 : specBytes < length t → 1 ≡ entryRefusal op t
     unfolding entryRefusal
-    entry-1 h = rw (le-leb op 1 known, lt-leb (length t) 4096 h)
+    entry-1 h = rw (le-leb op 1 known, lt-leb (length t) specBytes h)
 
-    module _ (fits : length t ≤ 4096) where
+    module _ (fits : length t ≤ specBytes) where
       -- question 2 decides
       entry-by : (b : Bool) → (push op and empty t) ≡ b → entryRefusal op t ≡ (not b else 2 then 0)
       unfolding entryRefusal
-      entry-by b e = rw (le-leb op 1 known, le-leb (length t) 4096 fits, e)
+      entry-by b e = rw (le-leb op 1 known, le-leb (length t) specBytes fits, e)
 
       -- an empty push: 2
       pub entry-2 : op ≡ 1 → length t ≡ 0 → 2 ≡ entryRefusal op t

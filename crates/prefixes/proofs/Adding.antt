@@ -195,7 +195,7 @@ module _ (op : ℕ) (specs : Text) (group : List SpecRecord) (n : ℕ) (table₀
     pub collecting-room : 18 * specCount ≤ length table₀ → 3 * c + 18 ≤ length table
     collecting-room h = omega (arith, m .few, m .kept)
 
-    module _ (size : length group ≡ 256) (q : SpecRecord) (is : q ≡ specAt (take n group) i) (r : RefSpec) (tells : r ≡ specFrom q) (in-list : AllWithin (length specs) (take n group)) where
+    module _ (size : length group ≡ specCount) (q : SpecRecord) (is : q ≡ specAt (take n group) i) (r : RefSpec) (tells : r ≡ specFrom q) (in-list : AllWithin (length specs) (take n group)) where
       -- the next record stands within the list
       pub collecting-within : SidesWithin (length specs) r
       collecting-within = rw tells (table-within group n i q is size few-specs below (length specs) in-list)

@@ -33,7 +33,7 @@ texts-are : (op : ℕ) (group : List Spec) → GroupPrefixes op group (groupText
 unfolding groupTexts
 texts-are op group = distinct-prefixes op group
 
--- a spec list that was accepted has at most 65,535 bytes
+-- a spec list that was accepted is not longer than one may be
 list-short : (op : ℕ) (specs : Text) (group : List Spec) → readSpecs op specs ≡ accepted group → length specs ≤ specListBytes
 unfolding readSpecs readList
 list-short op specs group e = go (leb op 1) (leb (length specs) specListBytes) refl e
@@ -68,7 +68,7 @@ module _ (op : ℕ) (specs : Text) (g : Group) (r : GroupRead specs g (readSpecs
     passed : GroupPassed specs g (readSpecs op specs)
     passed = group-passed specs g (readSpecs op specs) r z
 
-    -- an accepted one has at most 256 specs
+    -- an accepted one has at most so many specs
     pub group-count : g .count ≤ specCount
     group-count = passed .is .count-within
 

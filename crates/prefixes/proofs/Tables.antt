@@ -5,7 +5,7 @@ use native.Mathlib.Numerals.{add-one}
 use native.Mathlib.Omega.{arith}
 use mathlib.Core.Path.{_≡_, refl, sym, ap, _∙_}
 use mathlib.Core.Bool.{Bool, true, false}
-use mathlib.Core.List.{List, [], _∷_, _++_, append-nil, append-assoc}
+use mathlib.Core.List.{List, [], _∷_, _++_, append-nil}
 use mathlib.Core.Logic.{_⊎_, inl, inr}
 use mir.Val.{Fits}
 use mir.Syntax.{w64}
@@ -15,9 +15,11 @@ use Rattle.meaning.specs.Bytes.{Text, _or_, any, same}
 use Rattle.meaning.specs.Limits.{specListBytes, specCount}
 use Rattle.meaning.specs.Number.{textBytes, recordBytes}
 use Rattle.promises.proofs.Laws.{or-right}
+use Rattle.promises.proofs.Reading.{records-append}
 use Rattle.buffer.specs.Splice.{splice}
 use Rattle.buffer.proofs.Pairs.{pair-second, pair-put, pair-end}
 use Rattle.buffer.proofs.Splices.{splice-none, splice-start, length-splice}
+use Rattle.frames.proofs.Candidates.{recordAdds}
 use Rattle.prefixes.specs.declared.entry.Entry.{Entry}
 use Rattle.prefixes.specs.Distinct.{addNew}
 use Rattle.prefixes.specs.Table.{entryText, entryAt, tableTexts, EntryWithin, Entries, Entered}
@@ -41,12 +43,6 @@ module _ (size : ℕ) (table : List ℕ) (c : ℕ) (h : Entries size table c) (i
 
 -- ---- the list of the texts
 
--- the records of two lists, one after the other
-records-append : (l m : List Text) → recordBytes (l ++ m) ≡ recordBytes l ++ recordBytes m
-unfolding recordBytes
-records-append [] m = refl
-records-append (t ∷ l) m = ap (λ (s : Text). textBytes t ++ s) (records-append l m) ∙ sym (append-assoc (textBytes t) (recordBytes l) (recordBytes m))
-
 -- one text more
 records-last : (l : List Text) (t : Text) → recordBytes (l ++ (t ∷ [])) ≡ recordBytes l ++ textBytes t
 unfolding recordBytes
@@ -69,7 +65,7 @@ module _ (specs : Text) (table : List ℕ) where
 -- the texts are measured as far as entry i
 pub record Measured (specs : Text) (table : List ℕ) (c size i : ℕ) : Type 0 where
   pub count : i ≤ c
-  pub small : size ≤ 65556 * i
+  pub small : size ≤ (specListBytes + recordAdds) * i
   pub whole : size ≡ length (recordBytes (tableTexts specs table i))
 
 -- nothing is measured at the start
@@ -79,7 +75,7 @@ measured-starts specs table c = record { count = omega arith; small = omega arit
 
 module _ (specs : Text) (table : List ℕ) (c size i : ℕ) (m : Measured specs table c size i) where
   module _ (l : i < c) (h : Entries (length specs) table c) (few : length specs ≤ specListBytes) (e : Entry) (q : e ≡ entryAt table i) (r : ℕ) (er : r ≡ length (textBytes (entryText specs e))) where
-    short : r ≤ 65556
+    short : r ≤ specListBytes + recordAdds
     short = omega (arith, entry-short specs e (entry-in (length specs) table c h i l e q))
 
     -- one more text

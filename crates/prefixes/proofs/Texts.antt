@@ -13,7 +13,7 @@ use Rattle.buffer.specs.Splice.{splice}
 use Rattle.parse.specs.Places.{partAt}
 use Rattle.parse.proofs.Parts.{part-of, part-length}
 use Rattle.frames.specs.Frames.{candidate}
-use Rattle.frames.proofs.Candidates.{candidate-short, record-short}
+use Rattle.frames.proofs.Candidates.{candidate-short, recordAdds, record-short}
 use Rattle.prefixes.specs.declared.entry.Entry.{Entry}
 use Rattle.prefixes.specs.Table.{entryText, EntryWithin}
 
@@ -62,8 +62,8 @@ module _ (specs : Text) (e : Entry) where
     pub framed-same : (t : Text) (r : Bool) → r ≡ same t (candidate (e .frame) (take (e .at + e .len - e .at) (drop (e .at) specs))) → r ≡ same t (entryText specs e)
     framed-same t r q = rw framed q
 
-    -- and takes at most twenty-one bytes more than the list
-    framed-short : EntryWithin (length specs) e → length (textBytes (entryText specs e)) ≤ length specs + 21
+    -- and takes at most so many bytes more than the list
+    framed-short : EntryWithin (length specs) e → length (textBytes (entryText specs e)) ≤ length specs + recordAdds
     framed-short w = rw (framed, part-of specs (e .at) (e .len)) (omega (arith, record-short (partAt specs (e .at) (e .len)) (e .frame) h, part-length specs (e .at) (e .len) w))
 
   module _ (h : 6 ≤ e .frame) where
@@ -101,10 +101,10 @@ module _ (specs : Text) (e : Entry) where
     pub head-same : (t : Text) (r : Bool) → r ≡ same t (bytes "HEAD") → r ≡ same t (entryText specs e)
     head-same t r q = rw head q
 
-  -- an entry's record takes at most twenty-one bytes more than the list
-  pub entry-short : EntryWithin (length specs) e → length (textBytes (entryText specs e)) ≤ length specs + 21
+  -- an entry's record takes at most so many bytes more than the list
+  pub entry-short : EntryWithin (length specs) e → length (textBytes (entryText specs e)) ≤ length specs + recordAdds
   entry-short w = go (ltb (e .frame) 6) refl
     where
-      go : (b : Bool) → ltb (e .frame) 6 ≡ b → length (textBytes (entryText specs e)) ≤ length specs + 21
+      go : (b : Bool) → ltb (e .frame) 6 ≡ b → length (textBytes (entryText specs e)) ≤ length specs + recordAdds
       go true h = framed-short (ltb-true (e .frame) 6 h) w
       go false h = omega (arith, head-size (ltb-false (e .frame) 6 h))

@@ -21,6 +21,7 @@ use entry::Entry;
 use entry::side_entry;
 use frames::FRAMES;
 use limits::SPEC_COUNT;
+use limits::SPEC_LIST_BYTES;
 use parse::types::RefSpec;
 use refspec::spec::remote;
 use spec_list::read_specs;
@@ -33,6 +34,12 @@ use table::table_size;
 use write::prefixes::Yield;
 use write::prefixes::yield_of;
 use write::written::Written;
+
+// Numbers of the table: three for an entry, and a spec yields a candidate for each frame at most.
+const TABLE: usize = 3 * FRAMES * SPEC_COUNT;
+
+// Bytes of the longest text of an entry: a spec list in the longest frame.
+const SCRATCH: usize = SPEC_LIST_BYTES + 18;
 
 // Enters the candidates of the name of n bytes that begins at a place; how many entries the table has then.
 fn add_six(
@@ -143,8 +150,8 @@ fn list_group(
     requires { ⌜ (n ≤ specCount) × AllWithin (length (now specs)) (take n group) × (length (now specs) ≤ specListBytes) ⌝ }
     ensures { λ w. ⌜ MeetsOne (accepted (some (recordBytes (groupTexts op (groupMeant (now (specs .entry)) (take n group)))) ∷ [])) (now (out .entry)) (now (out .exit)) (w .refusal) (w .record) (w .length) ⌝ }
 {
-    let mut table = [0usize; 4608];
-    let mut scratch = [0u8; 65600];
+    let mut table = [0usize; TABLE];
+    let mut scratch = [0u8; SCRATCH];
     let count = collect(op, specs, group, n, &mut table, &mut scratch);
     list_table(specs, &table, count, out)
 }

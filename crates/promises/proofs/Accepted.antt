@@ -9,6 +9,7 @@ use borrow.Author.Tests.{leb-true, eqb-false, not-true}
 use lib.Dec.{eqb, leb, lit<}
 use lib.ListN.{length}
 use Rattle.meaning.specs.Bytes.{Text, bytes, _and_, _or_, agree, empty, same, given, present, absent, ifGiven}
+use Rattle.meaning.specs.Limits.{specBytes}
 use Rattle.meaning.specs.Names.{sidePasses}
 use Rattle.meaning.specs.Spec.{accepted, _else_then_, Mode, Normal, Force, Negative, Spec, isNegative, push, modeOf, unsigned, Sides, one, two, sidesOf, hasColon, left, right, supplied, named, sourceOf, specFrom, specOf, hasStar, atMostOneStar, exempt, notHashLike, starsAgree, sidesRefusal, specRefusal, unless, readSpec}
 use Rattle.meaning.specs.Instruction.{instruction, fetchInstruction, pushExclude}
@@ -60,7 +61,7 @@ unless-accepted (suc n) a e = absurd (let z : _≡_ {A = ℕ} 0 1 = cc in omega 
 -- what reading a spec says where it accepts
 pub record ReadPassed (op : ℕ) (t : Text) (s : Spec) : Type 0 where
   pub operation : op ≤ 1
-  pub size : length t ≤ 4096
+  pub size : length t ≤ specBytes
   pub spec-is : specOf op t ≡ s
   pub sides : Passed op (hasColon (sidesOf (unsigned t))) (specOf op t)
 
@@ -70,9 +71,9 @@ unfolding readSpec specRefusal
 read-passed op t s e =
     let u = unless-accepted (specRefusal op t) (specOf op t) e in
     let a18 = asked (leb op 1) 18 _ (lit< tt) (u .0) in
-    let a1 = asked (leb (length t) 4096) 1 _ (lit< tt) (a18 .1) in
+    let a1 = asked (leb (length t) specBytes) 1 _ (lit< tt) (a18 .1) in
     let a2 = asked (not (push op and empty t)) 2 _ (lit< tt) (a1 .1) in
-    record { operation = leb-true op 1 (a18 .0); size = leb-true (length t) 4096 (a1 .0); spec-is = u .1; sides = passed op _ (specOf op t) (a2 .1) }
+    record { operation = leb-true op 1 (a18 .0); size = leb-true (length t) specBytes (a1 .0); spec-is = u .1; sides = passed op _ (specOf op t) (a2 .1) }
 
 -- the sides that a text gives
 

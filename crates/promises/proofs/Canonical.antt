@@ -9,6 +9,7 @@ use borrow.Author.Tests.{le-leb, leb-true, not-true}
 use lib.Dec.{eqb}
 use lib.ListN.{length}
 use Rattle.meaning.specs.Bytes.{Text, bytes, plus, colon, caret, _and_, _or_, every, same, begins, present}
+use Rattle.meaning.specs.Limits.{specBytes, specListBytes, specCount}
 use Rattle.meaning.specs.Spec.{accepted, Mode, Normal, Force, Negative, Spec, isNegative, modeOfByte, modeOf, unsigned, Sides, one, two, sidesNext, sidesOf, hasColon, left, supplied, named, sourceOf, specFrom, specOf, exempt, starsAgree, specRefusal, readSpec}
 use Rattle.meaning.specs.Instruction.{instruction, canonicalText}
 use Rattle.meaning.specs.Bytes.{In}
@@ -41,9 +42,9 @@ calm-passed c c′ s p h =
     }
 
 -- a text whose parts mean a spec that passes is read as it
-text-reads : (t : Text) (s : Spec) → length t ≤ 4096 → specOf 0 t ≡ s → Passed 0 (hasColon (sidesOf (unsigned t))) s → readSpec 0 t ≡ accepted s
+text-reads : (t : Text) (s : Spec) → length t ≤ specBytes → specOf 0 t ≡ s → Passed 0 (hasColon (sidesOf (unsigned t))) s → readSpec 0 t ≡ accepted s
 unfolding readSpec specRefusal
-text-reads t s h e p = rw (le-leb (length t) 4096 h, e, pass 0 _ s p)
+text-reads t s h e p = rw (le-leb (length t) specBytes h, e, pass 0 _ s p)
 
 -- sources that do not begin with `+`
 
@@ -107,7 +108,7 @@ module _ (src : Text) (c : Bool) where
   destination-clean m d p = side-clean d (p .eight)
 
   -- fetch-only
-  only-reads : (m : Mode) → isNegative m ≡ false → calmMode m none ≡ Normal → Passed 0 c (specIs m src none) → begins (bytes "+") src ≡ false → length src ≤ 4096 → readSpec 0 src ≡ accepted (calm (specIs m src none))
+  only-reads : (m : Mode) → isNegative m ≡ false → calmMode m none ≡ Normal → Passed 0 c (specIs m src none) → begins (bytes "+") src ≡ false → length src ≤ specBytes → readSpec 0 src ≡ accepted (calm (specIs m src none))
   unfolding specOf specFrom calm
   only-reads m n k p b h =
       let cl = source-clean m none p in
@@ -118,7 +119,7 @@ module _ (src : Text) (c : Bool) where
       text-reads src (calm (specIs m src none)) h (rw (q1, o, q0, source-self 0 Normal src cl, k)) (calm-passed c _ (specIs m src none) p (rw n))
 
   -- negative
-  exclude-reads : Passed 0 c (specIs Negative src none) → length (caret ∷ src) ≤ 4096 → readSpec 0 (caret ∷ src) ≡ accepted (calm (specIs Negative src none))
+  exclude-reads : Passed 0 c (specIs Negative src none) → length (caret ∷ src) ≤ specBytes → readSpec 0 (caret ∷ src) ≡ accepted (calm (specIs Negative src none))
   unfolding specOf specFrom calm modeOfByte
   exclude-reads p h =
       let cl = source-clean Negative none p in
@@ -126,7 +127,7 @@ module _ (src : Text) (c : Bool) where
       text-reads (caret ∷ src) (calm (specIs Negative src none)) h (rw (o, source-self 0 Negative src cl)) (calm-passed c _ (specIs Negative src none) p (rw o))
 
   -- both sides, after a sign
-  both-read : (m : Mode) (d t : Text) → isNegative m ≡ false → calmMode m (some d) ≡ m → modeOf t ≡ m → unsigned t ≡ src ++ (colon ∷ d) → Passed 0 c (specIs m src (some d)) → length t ≤ 4096 → readSpec 0 t ≡ accepted (calm (specIs m src (some d)))
+  both-read : (m : Mode) (d t : Text) → isNegative m ≡ false → calmMode m (some d) ≡ m → modeOf t ≡ m → unsigned t ≡ src ++ (colon ∷ d) → Passed 0 c (specIs m src (some d)) → length t ≤ specBytes → readSpec 0 t ≡ accepted (calm (specIs m src (some d)))
   unfolding specOf specFrom calm
   both-read m d t n k q0 q1 p h =
       let cl = source-clean m (some d) p in
@@ -139,7 +140,7 @@ canon-by : (m : Mode) (src : Text) (dst : Option Text) (c : Bool)
     → Passed 0 c (specIs m src dst)
     → (isNegative m ≡ true → dst ≡ none)
     → (m ≡ Normal → begins (bytes "+") src ≡ false)
-    → length (canonicalText 0 (specIs m src dst)) ≤ 4096
+    → length (canonicalText 0 (specIs m src dst)) ≤ specBytes
     → (isNegative m or present dst or not (begins (bytes "+") src)) ≡ true
     → readSpec 0 (canonicalText 0 (specIs m src dst)) ≡ accepted (calm (specIs m src dst))
 unfolding canonicalText instruction modeOfByte
@@ -157,7 +158,7 @@ canon-some : (s : Spec) (src : Text) (c : Bool) → s .source ≡ some src → P
 unfolding textFits noPlus
 canon-some s src c e p n b h k =
     let f : s ≡ specIs (s .mode) src (s .destination) = λ i. record { mode = s .mode; source = e i; destination = s .destination } in
-    rw f (canon-by (s .mode) src (s .destination) c (rw f at p) n b (rw f at (leb-true (length (canonicalText 0 s)) 4096 h)) (rw e at k))
+    rw f (canon-by (s .mode) src (s .destination) c (rw f at p) n b (rw f at (leb-true (length (canonicalText 0 s)) specBytes h)) (rw e at k))
 
 -- the canonical text of an accepted spec is read as the spec, but for the `+` of a fetch-only
 pub canon : (s : Spec) (t : Text) → readSpec 0 t ≡ accepted s → textFits s ≡ true → noPlus s ≡ true → readSpec 0 (canonicalText 0 s) ≡ accepted (calm s)
@@ -172,16 +173,16 @@ canon s t e h k =
 
 -- the list of canonical texts is accepted
 
-module _ (group : List Spec) (count : length group ≤ 256) (texts : (s : Spec) → In s group → (t : Text) × (readSpec 0 t ≡ accepted s)) (fits : every textFits group ≡ true) (plain : every noPlus group ≡ true) where
+module _ (group : List Spec) (count : length group ≤ specCount) (texts : (s : Spec) → In s group → (t : Text) × (readSpec 0 t ≡ accepted s)) (fits : every textFits group ≡ true) (plain : every noPlus group ≡ true) where
   -- each text of the list is short, and read as the calm spec
-  text-short : (s : Spec) → In s group → length (canonicalText 0 s) ≤ 4096
+  text-short : (s : Spec) → In s group → length (canonicalText 0 s) ≤ specBytes
   unfolding textFits
-  text-short s m = leb-true _ 4096 (every-in textFits fits m)
+  text-short s m = leb-true _ specBytes (every-in textFits fits m)
 
   one-back : (s : Spec) → In s group → readSpec 0 (canonicalText 0 s) ≡ accepted (calm s)
   one-back s m = let t = texts s m in canon s (t .0) (t .1) (every-in textFits fits m) (every-in noPlus plain m)
 
-  list-back : length (canonicalList group) ≤ 65535 → readSpecs 0 (canonicalList group) ≡ accepted (map calm group)
+  list-back : length (canonicalList group) ≤ specListBytes → readSpecs 0 (canonicalList group) ≡ accepted (map calm group)
   list-back h = specs-written 0 (omega arith) (canonicalText 0) calm group count text-short one-back h
 
 module _ (specs specs′ : Text) (group : List Spec) (e : readSpecs 0 specs ≡ accepted group) (e′ : readSpecs 0 specs′ ≡ accepted (map calm group)) where

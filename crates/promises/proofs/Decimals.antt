@@ -7,6 +7,7 @@ use native.Mathlib.Omega.{arith}
 use borrow.Author.Tests.{lt-ltb}
 use lib.Dec.{ltb}
 use Rattle.meaning.specs.Bytes.{Text}
+use Rattle.meaning.specs.Limits.{decimalDigits}
 use Rattle.meaning.specs.Deliveries.{digits, decimal}
 use Rattle.promises.specs.Facts.{spelledAfter, DecimalReads}
 
@@ -27,4 +28,4 @@ digits-spell (suc k) n h = go (digits-spell k (n / 10) (omega arith)) (ltb n 10)
 -- a printed number spells itself
 pub decimal-reads : DecimalReads
 unfolding decimal
-decimal-reads n h = digits-spell 3 n (omega arith)
+decimal-reads n h = digits-spell (decimalDigits - 1) n (omega arith)

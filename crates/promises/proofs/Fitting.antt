@@ -9,6 +9,7 @@ use native.Mathlib.Omega.{arith}
 use lib.Dec.{eqb, lit≤}
 use lib.ListN.{length, length-append, length-drop}
 use Rattle.meaning.specs.Bytes.{Text, bytes, star, _and_, _or_, any, same, begins, each, numbered, lower, objectId, given, In, here, there}
+use Rattle.meaning.specs.Limits.{specBytes, nameBytes, specCount}
 use Rattle.meaning.specs.Spec.{accepted, Mode, Spec, isNegative, modeOf, unsigned, sidesOf, left, right, supplied, named, sourceOf, specFrom, specOf, starred, readSpec}
 use Rattle.meaning.specs.Prefix.{beforeStar, candidates}
 use Rattle.meaning.specs.Lists.{readSpecs, readItems}
@@ -26,31 +27,31 @@ use Rattle.promises.proofs.Listings.{endsIn, from-group, forward-made, 
 
 -- the sides of an accepted spec are short
 
--- a text that may be absent has at most 4,096 bytes
+-- a text that may be absent is as short as a spec
 abbrev pub Short : Option Text → Type 0
-Short o = (t : Text) → o ≡ some t → length t ≤ 4096
+Short o = (t : Text) → o ≡ some t → length t ≤ specBytes
 
 -- a source, of a side that is short
-source-short : (op : ℕ) (m : Mode) (l : Text) → length l ≤ 4096 → Short (sourceOf op m l)
+source-short : (op : ℕ) (m : Mode) (l : Text) → length l ≤ specBytes → Short (sourceOf op m l)
 unfolding supplied named
 source-short op m [] h t e = go (eqb op 0 and not (isNegative m)) e
   where
-    go : (b : Bool) → cond b (some (bytes "HEAD")) none ≡ some t → length t ≤ 4096
+    go : (b : Bool) → cond b (some (bytes "HEAD")) none ≡ some t → length t ≤ specBytes
     go true p = let q : bytes "HEAD" ≡ t = cc in rw (← q) (lit≤ tt)
     go false p = absurd (let z : _≡_ {A = ℕ} 0 1 = cc in omega arith)
 source-short op m (x ∷ l) h t e = go (same (x ∷ l) (bytes "@")) e
   where
-    go : (b : Bool) → some (cond b (bytes "HEAD") (x ∷ l)) ≡ some t → length t ≤ 4096
+    go : (b : Bool) → some (cond b (bytes "HEAD") (x ∷ l)) ≡ some t → length t ≤ specBytes
     go true p = let q : bytes "HEAD" ≡ t = cc in rw (← q) (lit≤ tt)
     go false p = let q : x ∷ l ≡ t = cc in rw (← q) h
 
 -- a destination
-given-short : (r : Text) → length r ≤ 4096 → Short (given r)
+given-short : (r : Text) → length r ≤ specBytes → Short (given r)
 given-short [] h t e = absurd (let z : _≡_ {A = ℕ} 0 1 = cc in omega arith)
 given-short (x ∷ r) h t e = let q : x ∷ r ≡ t = cc in rw (← q) h
 
 -- both sides of what a short text means
-text-short : (op : ℕ) (t : Text) → length t ≤ 4096 → Short (specOf op t .source) × Short (specOf op t .destination)
+text-short : (op : ℕ) (t : Text) → length t ≤ specBytes → Short (specOf op t .source) × Short (specOf op t .destination)
 unfolding specOf specFrom
 text-short op t h =
     let a = sides-length (unsigned t) in
@@ -127,7 +128,7 @@ hit-length (starNeedle a b) name = go (capture a b name) refl
     go (some c) e = let q = capture-is a b name c e in omega (arith, ap length q, length-append a (c ++ b), length-append c b)
 
 -- a destination that a match is mapped to
-maps-length : (name : Text) (h : Hit) → HitLength name h → (f : Option Form) → ((g : Form) → f ≡ some g → formLength g ≤ 4096) → (d : Text) → mapsTo h f ≡ mapped (some d) → length name ≤ 4096 → length d ≤ 8192
+maps-length : (name : Text) (h : Hit) → HitLength name h → (f : Option Form) → ((g : Form) → f ≡ some g → formLength g ≤ specBytes) → (d : Text) → mapsTo h f ≡ mapped (some d) → length name ≤ nameBytes → length d ≤ specBytes + nameBytes
 unfolding formLength
 maps-length name miss l f s d e k = absurd (let z : _≡_ {A = ℕ} 0 1 = cc in omega arith)
 maps-length name whole l none s d e k = absurd (let z : _≡_ {A = ℕ} 0 1 = cc in omega arith)
@@ -138,30 +139,30 @@ maps-length name (caught c) l (some (literal t)) s d e k = absurd (let z : _≡_
 maps-length name (caught c) l (some (pattern a b)) s d e k = let q : a ++ (c ++ b) ≡ d = cc in rw (← q) (omega (arith, s (pattern a b) refl, length-append a (c ++ b), length-append c b))
 
 -- the form of a destination that is short
-forms-short : (dst : Option Text) → Short dst → (g : Form) → Option·map formOf dst ≡ some g → formLength g ≤ 4096
+forms-short : (dst : Option Text) → Short dst → (g : Form) → Option·map formOf dst ≡ some g → formLength g ≤ specBytes
 forms-short none h g e = absurd (let z : _≡_ {A = ℕ} 0 1 = cc in omega arith)
 forms-short (some t) h g e = let q : formOf t ≡ g = cc in rw (← q) (omega (arith, form-length t, h t refl))
 
 -- a name mapped forward
-forward-length : (s : Spec) (name d : Text) → Short (s .destination) → forward s name ≡ mapped (some d) → length name ≤ 4096 → length d ≤ 8192
+forward-length : (s : Spec) (name d : Text) → Short (s .destination) → forward s name ≡ mapped (some d) → length name ≤ nameBytes → length d ≤ specBytes + nameBytes
 unfolding forward
 forward-length s name d h e k = go (s .source) e
   where
-    go : (o : Option Text) → forwardBy (isNegative (s .mode)) o (s .destination) name ≡ mapped (some d) → length d ≤ 8192
+    go : (o : Option Text) → forwardBy (isNegative (s .mode)) o (s .destination) name ≡ mapped (some d) → length d ≤ specBytes + nameBytes
     go none p = absurd (let z : _≡_ {A = ℕ} 0 1 = cc in omega arith)
     go (some src) p = maps-length name (hit (needleOf (isNegative (s .mode)) src) name) (hit-length (needleOf (isNegative (s .mode)) src) name) (Option·map formOf (s .destination)) (forms-short (s .destination) h) d p k
 
 -- a name mapped back, by forms
-back-length : (f g : Form) (name n : Text) → formLength f ≤ 4096 → reverseBy f g name ≡ some n → length name ≤ 4096 → length n ≤ 8192
+back-length : (f g : Form) (name n : Text) → formLength f ≤ specBytes → reverseBy f g name ≡ some n → length name ≤ nameBytes → length n ≤ specBytes + nameBytes
 unfolding formLength
 back-length (literal s) (literal t) name n h e k = go (same t name) e
   where
-    go : (b : Bool) → cond b (some s) none ≡ some n → length n ≤ 8192
+    go : (b : Bool) → cond b (some s) none ≡ some n → length n ≤ specBytes + nameBytes
     go true p = let q : s ≡ n = cc in rw (← q) (omega arith)
     go false p = absurd (let z : _≡_ {A = ℕ} 0 1 = cc in omega arith)
 back-length (pattern a b) (pattern a′ b′) name n h e k = go (capture a′ b′ name) refl e
   where
-    go : (o : Option Text) → capture a′ b′ name ≡ o → Option·map (λ c. a ++ (c ++ b)) o ≡ some n → length n ≤ 8192
+    go : (o : Option Text) → capture a′ b′ name ≡ o → Option·map (λ c. a ++ (c ++ b)) o ≡ some n → length n ≤ specBytes + nameBytes
     go none c p = absurd (let z : _≡_ {A = ℕ} 0 1 = cc in omega arith)
     go (some c) i p =
         let q : a ++ (c ++ b) ≡ n = cc in
@@ -171,11 +172,11 @@ back-length (literal s) (pattern a b) name n h e k = absurd (let z : _≡_ {A = 
 back-length (pattern a b) (literal t) name n h e k = absurd (let z : _≡_ {A = ℕ} 0 1 = cc in omega arith)
 
 -- a name mapped back
-pub reverse-length : (s : Spec) (name n : Text) → Short (s .source) → reverse s name ≡ some n → length name ≤ 4096 → length n ≤ 8192
+pub reverse-length : (s : Spec) (name n : Text) → Short (s .source) → reverse s name ≡ some n → length name ≤ nameBytes → length n ≤ specBytes + nameBytes
 unfolding reverse
 reverse-length s name n h e k = go (s .source) (s .destination) h e
   where
-    go : (src dst : Option Text) → Short src → reverseSides src dst name ≡ some n → length n ≤ 8192
+    go : (src dst : Option Text) → Short src → reverseSides src dst name ≡ some n → length n ≤ specBytes + nameBytes
     go none dst i p = absurd (let z : _≡_ {A = ℕ} 0 1 = cc in omega arith)
     go (some src) none i p = absurd (let z : _≡_ {A = ℕ} 0 1 = cc in omega arith)
     go (some src) (some dst) i p = back-length (formOf src) (formOf dst) name n (omega (arith, form-length src, i src refl)) p k
@@ -219,7 +220,7 @@ module _ (op : ℕ) (specs items : Text) (group : List Spec) (names : List Text)
       }
 
   -- the row of an object source
-  object-fits : (i : ℕ) → i < 256 → (o : Option Text) → Short o → (dst : Option Text) → Short dst → {r : Row} → In r (objectRow i o (mapsTo whole (Option·map formOf dst))) → RowFits r
+  object-fits : (i : ℕ) → i < specCount → (o : Option Text) → Short o → (dst : Option Text) → Short dst → {r : Row} → In r (objectRow i o (mapsTo whole (Option·map formOf dst))) → RowFits r
   object-fits i h o k dst l {r} m = go o k (mapsTo whole (Option·map formOf dst)) refl m
     where
       go : (o : Option Text) → Short o → (m : Mapped) → mapsTo whole (Option·map formOf dst) ≡ m → {r : Row} → In r (objectRow i o m) → RowFits r

@@ -1,7 +1,7 @@
 -- Laws of lists and texts. Assumes nothing.
 use mathlib.Core.Path.{_≡_, refl, sym, ap, subst}
 use mathlib.Core.Bool.{Bool, true, false, cond, true≢false, false≢true}
-use mathlib.Core.List.{List, [], _∷_, _++_, map}
+use mathlib.Core.List.{List, [], _∷_, _++_, map, append-assoc}
 use mathlib.Core.Logic.{_⊎_, inl, inr}
 use Prim.Native.Nat.{ℕ, suc, _+_, _≤_, _<_}
 use native.Mathlib.Omega.{arith}
@@ -205,6 +205,11 @@ numbered-in i (x ∷ l) (there h) = let r = numbered-in (suc i) l h in (omega ar
 pub in-numbered : {A : Type 0} (i : ℕ) {l : List A} {x : A} → In x l → (j : ℕ) × In {A = ℕ × A} (j, x) (numberedFrom i l)
 in-numbered i here = (i, here)
 in-numbered i (there h) = let r = in-numbered (suc i) h in (r .0, there (r .1))
+
+-- what is had of two lists after another is had of each
+pub each-append : {A B : Type 0} (l m : List A) (f : A → List B) → each (l ++ m) f ≡ each l f ++ each m f
+each-append [] m f = refl
+each-append (x ∷ l) m f = rw (each-append l m f, append-assoc (f x) (each l f) (each m f))
 
 -- a member's text is no longer than all texts
 pub each-long : {A : Type 0} (w : A → Text) {x : A} {l : List A} → In x l → length (w x) ≤ length (each l w)

@@ -10,6 +10,7 @@ use borrow.Author.Tests.{lt-ltb, le-leb, lt-leb, leb-true}
 use lib.Dec.{eqb, leb}
 use lib.ListN.{length, length-append}
 use Rattle.meaning.specs.Bytes.{Text, _and_, _or_, every, each, numbered, hexDigit, lowerHexDigit, lowerByte, lower, objectId, In, here, there}
+use Rattle.meaning.specs.Limits.{rowListBytes, specCount, itemCount, largestNumber, idDigits}
 use Rattle.meaning.specs.Spec.{Answer, accepted, Spec}
 use Rattle.meaning.specs.Number.{numberBytes, textBytes, took}
 use Rattle.meaning.specs.Lists.{readSpecs, readItems, readList}
@@ -55,7 +56,7 @@ lower-length (x ∷ t) = ap suc (lower-length t)
 
 digits-lower : (t : Text) → objectId t ≡ true → objectDigits (lower t) ≡ true
 unfolding objectId objectDigits
-digits-lower t e = rw (lower-length t) (and-both {a = eqb (length t) 40} (and-left (eqb (length t) 40) (every hexDigit t) e) (lower-every t (and-right (eqb (length t) 40) _ e)))
+digits-lower t e = rw (lower-length t) (and-both {a = eqb (length t) idDigits} (and-left (eqb (length t) idDigits) (every hexDigit t) e) (lower-every t (and-right (eqb (length t) idDigits) _ e)))
 
 -- what every row of a listing has: numbers that fit, and what question 16 asks
 pub record Sound (specs items : ℕ) (r : Row) : Type 0 where
@@ -97,7 +98,7 @@ reverse-sound group names r m = name-sound reverseEnds group names r (keep-in (n
 
 -- a row is read back
 
-read-destination : (o : Option Text) (s : Text) → length (destinationBytes o) < 2097152 → readDestination (destinationBytes o ++ s) ≡ took o s
+read-destination : (o : Option Text) (s : Text) → length (destinationBytes o) ≤ largestNumber → readDestination (destinationBytes o ++ s) ≡ took o s
 unfolding readDestination
 read-destination none s h = rw (read-number 0 s (omega arith))
 read-destination (some t) s h =
@@ -105,13 +106,13 @@ read-destination (some t) s h =
     let e = length-append (numberBytes (suc (length t))) t in
     rw (append-assoc (numberBytes (suc (length t))) t s, read-number (suc (length t)) (t ++ s) (omega arith), read-bytes t s)
 
--- the numbers of a row fit in three groups
+-- the numbers of a row are small enough to be written
 record Fits (r : Row) : Type 0 where
-  item-small : r .item < 2097152
-  spec-small : r .spec < 2097152
-  kind-small : r .kind < 2097152
-  source-small : length (r .source) < 2097152
-  destination-small : length (destinationBytes (r .destination)) < 2097152
+  item-small : r .item ≤ largestNumber
+  spec-small : r .spec ≤ largestNumber
+  kind-small : r .kind ≤ largestNumber
+  source-small : length (r .source) ≤ largestNumber
+  destination-small : length (destinationBytes (r .destination)) ≤ largestNumber
 
 -- a row has the bytes of its source and of its destination, and more
 pub row-length : (r : Row) → length (r .source) + length (destinationBytes (r .destination)) < length (rowBytes r)
@@ -135,10 +136,10 @@ unfolding rowRecord
 read-row-record specs j r s f p = rw (read-row r s f, p)
 
 -- a list of rows that fit and pass is read back
-rows-back : (specs : ℕ) (rows : List Row) → ((r : Row) → In r rows → Fits r) → ((r : Row) → In r rows → rowPasses specs r ≡ true) → length (rowListOf rows) ≤ 1048576 → readRows specs (rowListOf rows) ≡ accepted rows
+rows-back : (specs : ℕ) (rows : List Row) → ((r : Row) → In r rows → Fits r) → ((r : Row) → In r rows → rowPasses specs r ≡ true) → length (rowListOf rows) ≤ rowListBytes → readRows specs (rowListOf rows) ≡ accepted rows
 unfolding readRows readList rowListOf
 rows-back specs rows fits passes h =
-    rw (le-leb (length (each rows rowBytes)) 1048576 h, records-read (rowRecord specs) rowBytes (λ r. r) rows (length (each rows rowBytes)) 0 (λ r m. let n = row-length r in omega arith) (λ r m j b s. read-row-record specs j r s (fits r m) (passes r m)) (omega arith))
+    rw (le-leb (length (each rows rowBytes)) rowListBytes h, records-read (rowRecord specs) rowBytes (λ r. r) rows (length (each rows rowBytes)) 0 (λ r m. let n = row-length r in omega arith) (λ r m j b s. read-row-record specs j r s (fits r m) (passes r m)) (omega arith))
     (ap {B = Answer (List Row)} accepted (map-same rows))
 
 -- it passes under its group's count of specs, and under a higher one
@@ -147,7 +148,7 @@ unfolding rowPasses
 sound-passes specs items most r s h = and-both (lt-ltb (r .spec) most (omega (arith, s .spec-fits))) (s .kind-passes)
 
 -- rows of a listing are read back under any such count, where their bytes fit a row list
-pub sound-back-under : (specs items most : ℕ) (rows : List Row) → specs ≤ 256 → items ≤ 1024 → specs ≤ most → ((r : Row) → In r rows → Sound specs items r) → length (rowListOf rows) ≤ 1048576 → readRows most (rowListOf rows) ≡ accepted rows
+pub sound-back-under : (specs items most : ℕ) (rows : List Row) → specs ≤ specCount → items ≤ itemCount → specs ≤ most → ((r : Row) → In r rows → Sound specs items r) → length (rowListOf rows) ≤ rowListBytes → readRows most (rowListOf rows) ≡ accepted rows
 unfolding rowListOf
 sound-back-under specs items most rows a b w sound h = rows-back most rows fits (λ r m. sound-passes specs items most r (sound r m) w) h
   where
@@ -159,11 +160,11 @@ sound-back-under specs items most rows a b w sound h = rows-back most rows fits 
         record { item-small = omega arith; spec-small = omega arith; kind-small = omega arith; source-small = omega arith; destination-small = omega arith }
 
 -- under their group's own count
-pub sound-back : (specs items : ℕ) (rows : List Row) → specs ≤ 256 → items ≤ 1024 → ((r : Row) → In r rows → Sound specs items r) → length (rowListOf rows) ≤ 1048576 → readRows specs (rowListOf rows) ≡ accepted rows
+pub sound-back : (specs items : ℕ) (rows : List Row) → specs ≤ specCount → items ≤ itemCount → ((r : Row) → In r rows → Sound specs items r) → length (rowListOf rows) ≤ rowListBytes → readRows specs (rowListOf rows) ≡ accepted rows
 sound-back specs items rows a b sound h = sound-back-under specs items specs rows a b (omega arith) sound h
 
 -- a forward listing that fits a row list is read back under any such count
-pub forward-back : (specs items : Text) (group : List Spec) (names : List Text) → readSpecs 0 specs ≡ accepted group → readItems items ≡ accepted names → length (rowListOf (forwardRows group names)) ≤ 1048576 → (most : ℕ) → length group ≤ most → readRows most (rowListOf (forwardRows group names)) ≡ accepted (forwardRows group names)
+pub forward-back : (specs items : Text) (group : List Spec) (names : List Text) → readSpecs 0 specs ≡ accepted group → readItems items ≡ accepted names → length (rowListOf (forwardRows group names)) ≤ rowListBytes → (most : ℕ) → length group ≤ most → readRows most (rowListOf (forwardRows group names)) ≡ accepted (forwardRows group names)
 forward-back specs items group names e f h most w = sound-back-under (length group) (length names) most (forwardRows group names) (group-count 0 specs group e) (names-count items names f) w (forward-sound group names) h
 
 -- the second statement of demand 3

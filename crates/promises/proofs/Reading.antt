@@ -10,10 +10,12 @@ use lib.Dec.{leb, ltb}
 use lib.ListN.{length, length-append}
 use lib.Seq.{take-append-seam, drop-append-seam}
 use Rattle.meaning.specs.Bytes.{Text, each}
+use Rattle.meaning.specs.Limits.{numberGroups, largestNumber}
 use Rattle.meaning.specs.Spec.{Answer, accepted, refused}
 use Rattle.meaning.specs.Bytes.{In, here, there}
-use Rattle.meaning.specs.Number.{groups, numberBytes, textBytes, Step, took, no, Reader, readGroups, readNumber, readBytes, readText}
+use Rattle.meaning.specs.Number.{groups, numberBytes, textBytes, recordBytes, Step, took, no, Reader, readGroups, readNumber, readBytes, readText}
 use Rattle.meaning.specs.Lists.{withFirst, recordThen, recordsFrom, readList}
+use Rattle.promises.proofs.Laws.{each-append}
 
 -- a number of one group is read back
 round-small : (k n : ℕ) (s : Text) → ltb n 128 ≡ true → readGroups (suc k) (groups (suc k) n ++ s) ≡ took n s
@@ -37,9 +39,9 @@ round-groups (suc k) n s h = go (round-groups k (n / 128) s (omega arith)) (ltb 
     go ih false e = round-large (suc k) n s (ltb-false n 128 e) ih
 
 -- a number is read back
-pub read-number : (n : ℕ) (s : Text) → n < 2097152 → readNumber (numberBytes n ++ s) ≡ took n s
+pub read-number : (n : ℕ) (s : Text) → n ≤ largestNumber → readNumber (numberBytes n ++ s) ≡ took n s
 unfolding readNumber numberBytes
-read-number n s h = round-groups 2 n s h
+read-number n s h = round-groups (numberGroups - 1) n s (omega arith)
 
 -- so are bytes
 pub read-bytes : (t s : Text) → readBytes (length t) (t ++ s) ≡ took t s
@@ -47,7 +49,7 @@ unfolding readBytes
 read-bytes t s = rw (le-leb (length t) (length (t ++ s)) (rw (length-append t s) (omega arith)), take-append-seam t s, drop-append-seam t s)
 
 -- and a text with its length
-pub read-text : (t s : Text) → length t < 2097152 → readText (textBytes t ++ s) ≡ took t s
+pub read-text : (t s : Text) → length t ≤ largestNumber → readText (textBytes t ++ s) ≡ took t s
 unfolding readText textBytes
 read-text t s h = rw (append-assoc (numberBytes (length t)) t s, read-number (length t) (t ++ s) h) (read-bytes t s)
 
@@ -56,11 +58,16 @@ pub number-long : (n : ℕ) → 0 < length (numberBytes n)
 unfolding numberBytes
 number-long n = go (ltb n 128)
   where
-    go : (b : Bool) → 0 < length (cond {A = Text} b (n ∷ []) ((128 + n % 128) ∷ groups 2 (n / 128)))
+    go : (b : Bool) → 0 < length (cond {A = Text} b (n ∷ []) ((128 + n % 128) ∷ groups (numberGroups - 1) (n / 128)))
     go true = omega arith
     go false = omega arith
 
 -- lists of records
+
+-- the records of one list and then another
+pub records-append : (l m : List Text) → recordBytes (l ++ m) ≡ recordBytes l ++ recordBytes m
+unfolding recordBytes
+records-append l m = each-append l m textBytes
 
 module _ {B : Type 0} (one : ℕ → Reader B) where
   records-step : (k i : ℕ) (t : Text) (b : B) (rest : Text) → 0 < length t → one i t ≡ took b rest → recordsFrom one (suc k) i t ≡ withFirst b (recordsFrom one k (suc i) rest)

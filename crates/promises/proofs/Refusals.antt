@@ -8,6 +8,7 @@ use mathlib.Core.Option.{none}
 use lib.Dec.{eqb, leb, ltb}
 use lib.ListN.{length}
 use Rattle.meaning.specs.Bytes.{Text}
+use Rattle.meaning.specs.Limits.{nameBytes, specListBytes, itemListBytes, rowListBytes, specCount, itemCount, numberGroups}
 use Rattle.meaning.specs.Spec.{Answer, accepted, refused, unless, specOf, specRefusal, readSpec}
 use Rattle.meaning.specs.Number.{Step, took, no, Reader, stepThen, _>>=_, give, need, groupBefore, readGroups, readNumber, readBytes, readText}
 use Rattle.meaning.specs.Lists.{withFirst, recordThen, recordsFrom, readList, answered, specRecord, itemRecord, readSpecs, readItems}
@@ -49,7 +50,7 @@ groups-above (suc k) (b ∷ s) = cond-above (ltb b 128) (took b s) _ tt (then-ab
 
 number-above : (s : Text) → StepAbove (readNumber s)
 unfolding readNumber
-number-above s = groups-above 3 s
+number-above s = groups-above numberGroups s
 
 -- bytes, and a text
 bytes-above : (n : ℕ) (s : Text) → StepAbove (readBytes n s)
@@ -77,12 +78,12 @@ answered-above (refused n r) s p = p
 spec-record-above : (op j : ℕ) (s : Text) → StepAbove (specRecord op j s)
 unfolding specRecord
 spec-record-above op j s =
-    need-above 14 (ltb j 256) (readText >>= λ t. answered (readSpec op t)) s (omega arith) (then-above (readText s) (λ t. answered (readSpec op t)) (text-above s) (λ t rest. answered-above (readSpec op t) rest (spec-above op t)))
+    need-above 14 (ltb j specCount) (readText >>= λ t. answered (readSpec op t)) s (omega arith) (then-above (readText s) (λ t. answered (readSpec op t)) (text-above s) (λ t rest. answered-above (readSpec op t) rest (spec-above op t)))
 
 item-record-above : (j : ℕ) (s : Text) → StepAbove (itemRecord j s)
 unfolding itemRecord
 item-record-above j s =
-    need-above 14 (ltb j 1024) (readText >>= λ t. need 15 (leb (length t) 4096) (give t)) s (omega arith) (then-above (readText s) (λ t. need 15 (leb (length t) 4096) (give t)) (text-above s) (λ t rest. need-above 15 (leb (length t) 4096) (give t) rest (omega arith) tt))
+    need-above 14 (ltb j itemCount) (readText >>= λ t. need 15 (leb (length t) nameBytes) (give t)) s (omega arith) (then-above (readText s) (λ t. need 15 (leb (length t) nameBytes) (give t)) (text-above s) (λ t rest. need-above 15 (leb (length t) nameBytes) (give t) rest (omega arith) tt))
 
 -- a row
 after-above : (n : ℕ) (s : Text) → StepAbove (destinationAfter n s)
@@ -136,17 +137,17 @@ specs-above : (op : ℕ) (s : Text) → Above (readSpecs op s)
 unfolding readSpecs
 specs-above op s = go (leb op 1)
   where
-    go : (b : Bool) → Above (cond b (readList 65535 (specRecord op) s) (refused 18 none))
-    go true = list-above (specRecord op) (spec-record-above op) 65535 s
+    go : (b : Bool) → Above (cond b (readList specListBytes (specRecord op) s) (refused 18 none))
+    go true = list-above (specRecord op) (spec-record-above op) specListBytes s
     go false = omega arith
 
 items-above : (s : Text) → Above (readItems s)
 unfolding readItems
-items-above s = list-above itemRecord item-record-above 65535 s
+items-above s = list-above itemRecord item-record-above itemListBytes s
 
 rows-above : (specs : ℕ) (s : Text) → Above (readRows specs s)
 unfolding readRows
-rows-above specs s = list-above (rowRecord specs) (row-record-above specs) 1048576 s
+rows-above specs s = list-above (rowRecord specs) (row-record-above specs) rowListBytes s
 
 -- entries
 

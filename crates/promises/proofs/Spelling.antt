@@ -10,6 +10,7 @@ use borrow.Author.Tests.{le-ltb, ltb-true, ltb-false, leb-true, eqb-true, eqb-fa
 use lib.Dec.{eqb, leb, ltb}
 use lib.ListN.{length, take, drop, take-append-drop, length-append, length-drop}
 use Rattle.meaning.specs.Bytes.{Text, _and_, _or_, every, each, In}
+use Rattle.meaning.specs.Limits.{nameBytes, itemListBytes, rowListBytes, itemCount, numberGroups}
 use Rattle.meaning.specs.Spec.{Answer, accepted, refused}
 use Rattle.meaning.specs.Number.{groups, numberBytes, textBytes, recordBytes, Step, took, no, Reader, stepThen, _>>=_, give, need, groupBefore, readGroups, readNumber, readBytes, readText}
 use Rattle.meaning.specs.Lists.{withFirst, recordThen, recordsFrom, readList, itemRecord, readItems}
@@ -62,7 +63,7 @@ groups-spelled (suc k) (b ∷ s) n r h e = go (groups-spelled k s) (ltb b 128) r
 -- a number
 pub number-spelled : (s : Text) (n : ℕ) (r : Text) → every isByte s ≡ true → readNumber s ≡ took n r → s ≡ numberBytes n ++ r
 unfolding readNumber numberBytes
-number-spelled s n r h e = groups-spelled 3 s n r h e
+number-spelled s n r h e = groups-spelled numberGroups s n r h e
 
 -- so many bytes
 pub bytes-spelled : (n : ℕ) (s t r : Text) → readBytes n s ≡ took t r → (s ≡ t ++ r) × (length t ≡ n)
@@ -159,9 +160,9 @@ module _ {B : Type 0} (one : ℕ → Reader B) (w : B → Text) (spelled : (i : 
 item-spelled : (i : ℕ) (s b rest : Text) → every isByte s ≡ true → itemRecord i s ≡ took b rest → s ≡ textBytes b ++ rest
 unfolding itemRecord
 item-spelled i s b rest h e =
-    let p : stepThen (readText s) (λ t. need 15 (leb (length t) 4096) (give t)) ≡ took b rest = rw (need-yes 14 (ltb i 1024) (readText >>= λ t. need 15 (leb (length t) 4096) (give t)) s e) at e in
-    let q = step-took (readText s) (λ t. need 15 (leb (length t) 4096) (give t)) p in
-    let y = need-yes 15 (leb (length (q .0)) 4096) (give (q .0)) (q .1) (q .3) in
+    let p : stepThen (readText s) (λ t. need 15 (leb (length t) nameBytes) (give t)) ≡ took b rest = rw (need-yes 14 (ltb i itemCount) (readText >>= λ t. need 15 (leb (length t) nameBytes) (give t)) s e) at e in
+    let q = step-took (readText s) (λ t. need 15 (leb (length t) nameBytes) (give t)) p in
+    let y = need-yes 15 (leb (length (q .0)) nameBytes) (give (q .0)) (q .1) (q .3) in
     let g : took (q .0) (q .1) ≡ took b rest = rw y at (q .3) in
     let u : q .0 ≡ b = cc in
     let v : q .1 ≡ rest = cc in
@@ -182,7 +183,7 @@ row-record-spelled specs i s b rest h e =
 pub one-spelling : OneSpelling
 unfolding readItems readRows recordBytes rowListOf
 one-spelling =
-    ((λ s names h e. list-spelled itemRecord textBytes item-spelled 65535 s names h e), (λ specs s rows h e. list-spelled (rowRecord specs) rowBytes (row-record-spelled specs) 1048576 s rows h e))
+    ((λ s names h e. list-spelled itemRecord textBytes item-spelled itemListBytes s names h e), (λ specs s rows h e. list-spelled (rowRecord specs) rowBytes (row-record-spelled specs) rowListBytes s rows h e))
 
 -- rows that are read fit
 
@@ -229,14 +230,14 @@ unfolding readRows rowPasses rowListOf
 read-rows-fit specs s rows h e = (fits, omega (arith, rows-fewer rows, ap length whole, within))
   where
     whole : s ≡ each rows rowBytes
-    whole = list-spelled (rowRecord specs) rowBytes (row-record-spelled specs) 1048576 s rows h e
+    whole = list-spelled (rowRecord specs) rowBytes (row-record-spelled specs) rowListBytes s rows h e
 
-    within : length s ≤ 1048576
-    within = list-within 1048576 (rowRecord specs) s rows e
+    within : length s ≤ rowListBytes
+    within = list-within rowListBytes (rowRecord specs) s rows e
 
     fits : (r : Row) → In r rows → ReadRowFits specs r
     fits r m =
-        let p = list-all (rowRecord specs) (λ x. rowPasses specs x ≡ true) (row-passed specs) 1048576 s rows e r m in
+        let p = list-all (rowRecord specs) (λ x. rowPasses specs x ≡ true) (row-passed specs) rowListBytes s rows e r m in
         let a = and-left (ltb (r .spec) specs) _ p in
         let b = and-right (ltb (r .spec) specs) _ p in
         let n = row-length r in

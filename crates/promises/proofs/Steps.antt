@@ -9,6 +9,7 @@ use borrow.Author.Tests.{le-leb}
 use lib.Dec.{eqb, leb, ltb}
 use lib.ListN.{length, take, drop, length-drop}
 use Rattle.meaning.specs.Bytes.{Text}
+use Rattle.meaning.specs.Limits.{nameBytes, specCount, itemCount, numberGroups}
 use Rattle.meaning.specs.Spec.{Answer, accepted, refused, readSpec}
 use Rattle.meaning.specs.Number.{Step, took, no, Reader, stepThen, _>>=_, give, need, groupBefore, readGroups, readNumber, readBytes, readText}
 use Rattle.meaning.specs.Lists.{withFirst, recordThen, recordsFrom, answered, readList, specRecord, itemRecord}
@@ -75,7 +76,7 @@ groups-shrink (suc k) (b ∷ s) a rest e = go (groups-shrink k s) (ltb b 128) e
 
 number-shrinks : Shrinks readNumber
 unfolding readNumber
-number-shrinks = groups-shrink 3
+number-shrinks = groups-shrink numberGroups
 
 bytes-keep : (n : ℕ) → Keeps (readBytes n)
 unfolding readBytes
@@ -100,12 +101,12 @@ destination-keeps = keeps-then readNumber destinationAfter (shrinks-keeps readNu
 -- a spec takes a byte at least
 pub specs-shrink : (op i : ℕ) → Shrinks (specRecord op i)
 unfolding specRecord
-specs-shrink op i = need-shrinks 14 (ltb i 256) _ (shrinks-then readText (λ t. answered (readSpec op t)) text-shrinks (λ t. answered-keeps (readSpec op t)))
+specs-shrink op i = need-shrinks 14 (ltb i specCount) _ (shrinks-then readText (λ t. answered (readSpec op t)) text-shrinks (λ t. answered-keeps (readSpec op t)))
 
 -- so does an item
 pub items-shrink : (i : ℕ) → Shrinks (itemRecord i)
 unfolding itemRecord
-items-shrink i = need-shrinks 14 (ltb i 1024) _ (shrinks-then readText _ text-shrinks (λ t. need-keeps 15 (leb (length t) 4096) (give t) (give-keeps t)))
+items-shrink i = need-shrinks 14 (ltb i itemCount) _ (shrinks-then readText _ text-shrinks (λ t. need-keeps 15 (leb (length t) nameBytes) (give t) (give-keeps t)))
 
 row-shrinks : Shrinks readRow
 unfolding readRow

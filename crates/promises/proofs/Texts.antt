@@ -1,5 +1,5 @@
 -- A spec list of texts is read text by text, each as the spec in its place. Assumes nothing.
-use Prim.Native.Nat.{ℕ, zero, suc, _<_}
+use Prim.Native.Nat.{ℕ, zero, suc, _≤_, _<_}
 use native.Mathlib.Omega.{arith}
 use mathlib.Core.Path.{_≡_, refl, ap, _∙_}
 use mathlib.Core.List.{List, [], _∷_, _++_}
@@ -7,6 +7,7 @@ use borrow.Author.Tests.{le-leb}
 use lib.Dec.{ltb}
 use lib.ListN.{length, length-append}
 use Rattle.meaning.specs.Bytes.{Text, each, In, here, there}
+use Rattle.meaning.specs.Limits.{specListBytes, specCount, largestNumber}
 use Rattle.meaning.specs.Spec.{Answer, accepted, refused, Spec, readSpec}
 use Rattle.meaning.specs.Number.{numberBytes, textBytes, recordBytes, Step, took, no, Reader, stepThen, _>>=_, readText}
 use Rattle.meaning.specs.Lists.{withFirst, recordThen, recordsFrom, readList, answered, specRecord, readSpecs}
@@ -53,16 +54,16 @@ answered-left (accepted a) s e = cc
 answered-left (refused n r) s e = absurd (let z : _≡_ {A = ℕ} 0 1 = cc in omega arith)
 
 -- the spec of a record was read from the record's text
-spec-taken : (i : ℕ) (t rest : Text) (b : Spec) (r : Text) → length t < 2097152 → specRecord 0 i (textBytes t ++ rest) ≡ took b r → (readSpec 0 t ≡ accepted b) × (rest ≡ r)
+spec-taken : (i : ℕ) (t rest : Text) (b : Spec) (r : Text) → length t ≤ largestNumber → specRecord 0 i (textBytes t ++ rest) ≡ took b r → (readSpec 0 t ≡ accepted b) × (rest ≡ r)
 unfolding specRecord
 spec-taken i t rest b r h e =
-    let y = need-yes 14 (ltb i 256) (readText >>= λ u. answered (readSpec 0 u)) (textBytes t ++ rest) e in
+    let y = need-yes 14 (ltb i specCount) (readText >>= λ u. answered (readSpec 0 u)) (textBytes t ++ rest) e in
     let p : stepThen (readText (textBytes t ++ rest)) (λ u. answered (readSpec 0 u)) ≡ took b r = rw y at e in
     let q : answered (readSpec 0 t) rest ≡ took b r = rw (read-text t rest h) at p in
     (answered-took (readSpec 0 t) rest q, answered-left (readSpec 0 t) rest q)
 
 -- so for every record
-texts-read : (texts : List Text) (k i : ℕ) (l : List Spec) → ((t : Text) → In t texts → length t < 2097152) → recordsFrom (specRecord 0) k i (each texts textBytes) ≡ accepted l → EachRead texts l
+texts-read : (texts : List Text) (k i : ℕ) (l : List Spec) → ((t : Text) → In t texts → length t ≤ largestNumber) → recordsFrom (specRecord 0) k i (each texts textBytes) ≡ accepted l → EachRead texts l
 unfolding textBytes
 texts-read [] zero i l h e = let q : [] ≡ l = cc in rw (← q) tt
 texts-read [] (suc k) i l h e = let q : [] ≡ l = cc in rw (← q) tt
@@ -79,7 +80,7 @@ pub specs-texts : (texts : List Text) (group : List Spec) → readSpecs 0 (recor
 unfolding recordBytes readList textBytes
 specs-texts texts group e =
     let r = specs-list 0 (recordBytes texts) group e in
-    let w = list-within 65535 (specRecord 0) (recordBytes texts) group r in
+    let w = list-within specListBytes (specRecord 0) (recordBytes texts) group r in
     texts-read texts (length (each texts textBytes)) 0 group
     (λ t m. let a = each-long textBytes m in let b = length-append (numberBytes (length t)) t in omega arith)
-    (rw (le-leb (length (each texts textBytes)) 65535 w) at r)
+    (rw (le-leb (length (each texts textBytes)) specListBytes w) at r)

@@ -1,26 +1,27 @@
 -- The false variants of demand 3 are refuted, each by the smallest example found. Assumes nothing.
-use Prim.Native.Nat.{ℕ, zero, suc, _+_, _*_, _≤_, _<_}
+use Prim.Native.Nat.{ℕ, zero, suc, _+_, _-_, _*_, _/_, _≤_, _<_}
 use native.Mathlib.Omega.{arith}
 use native.Mathlib.Nat.{zero-add}
 use mathlib.Core.Path.{_≡_, refl, sym, ap, _∙_}
 use mathlib.Core.Logic.{_⊎_, inl, inr}
-use mathlib.Core.Bool.{Bool, false, false≢true}
+use mathlib.Core.Bool.{Bool, true, false, false≢true}
 use mathlib.Core.List.{List, [], _∷_, _++_, map, append-nil}
 use mathlib.Core.Option.{Option, none, some}
-use lib.Dec.{lit≤, lit<}
+use lib.Dec.{eqb, lit≤, lit<}
 use lib.ListN.{length, replicate, length-append, length-replicate}
 use Rattle.meaning.specs.Bytes.{Text, bytes, any, keep, each, numberedFrom, In, here, there}
+use Rattle.meaning.specs.Limits.{specBytes, nameBytes, specListBytes, rowListBytes, specCount, largestNumber}
 use Rattle.meaning.specs.Spec.{Answer, accepted, refused, Mode, Normal, Force, Negative, Spec, isForce, readSpec}
 use Rattle.meaning.specs.Buffers.{Written}
 use Rattle.meaning.specs.Number.{numberBytes, textBytes, recordBytes}
-use Rattle.meaning.specs.Lists.{readSpecs}
+use Rattle.meaning.specs.Lists.{readSpecs, readItems}
 use Rattle.meaning.specs.Rows.{Row, rowBytes, rowListOf}
 use Rattle.meaning.specs.Match.{capture, mapped, forward}
 use Rattle.meaning.specs.Listing.{forwardEnds, nameRow, nameRows, objectRows, excludes, notExcluded, forwardRows}
 use Rattle.meaning.specs.Everything.{everything}
 use Rattle.promises.specs.Terms.{reversible, textFits, noPlus, canonicalList}
 use Rattle.promises.specs.Variants.{ConflictsOfAnySpecs, ConflictsOfAnyRows, ConflictsByBytes, ConflictsByDestination, ConflictsOfKeptRows, ReadBackOfAnySpecs, ReadBackOfAnyNames, ReadBackOfAnySize, ReadBackUnderNone, KeptMapBackWhere, anySpec, oneSided, MapBackInConflict, MapBackOfAnyRow, MapBackOfAnyDestination, MapBackWithoutIt, MapBackToAnyName, CanonicalOfAnySpecs, CanonicalOfAnyLength, CanonicalOfAnyList, CanonicalOfAnySource, CanonicalIsTheSame, FalseVariants, PremisesMet}
-use Rattle.promises.proofs.Laws.{same-eq, in-cons}
+use Rattle.promises.proofs.Laws.{or-right, in-cons, same-eq, each-append}
 use Rattle.promises.proofs.Captures.{capture-fill}
 use Rattle.promises.proofs.Members.{specs-written, specs-long, rows-long}
 use Rattle.promises.proofs.ReadBack.{row-length}
@@ -91,7 +92,7 @@ back-any-specs : ReadBackOfAnySpecs → ⊥
 unfolding everything
 back-any-specs f = refused-accepted (f (1 ∷ bytes "^") [] [] [] refl (lit≤ tt))
 
--- so many items of no bytes, then `a`: its number has four groups
+-- so many items of no bytes, then `a`: its number has a group too many
 abbrev far : ℕ → List Text
 far k = replicate k [] ++ (bytes "a" ∷ [])
 
@@ -104,14 +105,14 @@ far-rows : (k : ℕ) → forwardRows (spec Normal (bytes "a") none ∷ []) (far 
 unfolding everything
 far-rows k = rw (skip (λ m. nameRow 0 (m .0) (forwardEnds (spec Normal (bytes "a") none) (m .1))) (λ i. refl) k 0, zero-add k)
 
-back-any-names : (k : ℕ) → k ≡ 2097151 → ReadBackOfAnyNames → ⊥
+back-any-names : (k : ℕ) → k ≡ largestNumber → ReadBackOfAnyNames → ⊥
 unfolding everything
 back-any-names k e f =
     let q = f (1 ∷ bytes "a") (spec Normal (bytes "a") none ∷ []) (far k) refl (rw (far-rows k, e) (lit≤ tt)) in
     let p = rw (far-rows k, e) at q in
     refused-accepted p
 
--- many specs `*:*` on one item: each has a row with the name twice
+-- many specs `*:*` on long items: each has a row with the name twice
 
 abbrev all : Spec
 all = spec Normal (bytes "*") (some (bytes "*"))
@@ -123,51 +124,82 @@ all-forward : (t : Text) → forward all t ≡ mapped (some t)
 unfolding everything
 all-forward t = let c : capture [] [] t ≡ some t = all-capture t in rw c (rw (append-nil t))
 
-manyRows : ℕ → ℕ → Text → List Row
-manyRows i zero t = []
-manyRows i (suc k) t = row 1 i t t ∷ manyRows (suc i) k t
+-- the rows of spec i, from item j on
+twiceRows : ℕ → ℕ → List Text → List Row
+twiceRows i j [] = []
+twiceRows i j (t ∷ names) = row (suc j) i t t ∷ twiceRows i (suc j) names
+
+-- the rows of k specs from spec i on
+manyRows : ℕ → ℕ → List Text → List Row
+manyRows i zero names = []
+manyRows i (suc k) names = twiceRows i 0 names ++ manyRows (suc i) k names
 
 no-objects : (k i : ℕ) → each (numberedFrom i (replicate k all)) objectRows ≡ []
 unfolding everything
 no-objects zero i = refl
 no-objects (suc k) i = no-objects k (suc i)
 
-all-names : (t : Text) (k i : ℕ) → each (numberedFrom i (replicate k all)) (nameRows forwardEnds (t ∷ [])) ≡ manyRows i k t
-unfolding manyRows nameRows forwardEnds
-all-names t zero i = refl
-all-names t (suc k) i = rw (all-forward t, all-names t k (suc i))
+twice-names : (i j : ℕ) (names : List Text) → each (numberedFrom j names) (λ m. nameRow i (m .0) (forwardEnds all (m .1))) ≡ twiceRows i j names
+unfolding twiceRows forwardEnds
+twice-names i j [] = refl
+twice-names i j (t ∷ names) = rw (all-forward t, twice-names i (suc j) names)
+
+all-names : (names : List Text) (k i : ℕ) → each (numberedFrom i (replicate k all)) (nameRows forwardEnds names) ≡ manyRows i k names
+unfolding manyRows nameRows
+all-names names zero i = refl
+all-names names (suc k) i = rw (twice-names i 0 names, all-names names k (suc i))
 
 none-excluded : (name : Text) (k : ℕ) → any (excludes name) (replicate k all) ≡ false
 unfolding excludes
 none-excluded name zero = refl
 none-excluded name (suc k) = none-excluded name k
 
-keep-many : (t : Text) (n k i : ℕ) → keep (notExcluded (replicate n all)) (manyRows i k t) ≡ manyRows i k t
-unfolding manyRows notExcluded
-keep-many t n zero i = refl
-keep-many t n (suc k) i = rw (none-excluded t n, keep-many t n k (suc i))
+keep-many : (k : ℕ) (rows : List Row) → keep (notExcluded (replicate k all)) rows ≡ rows
+unfolding notExcluded
+keep-many k [] = refl
+keep-many k (r ∷ rows) = rw (none-excluded (r .source) k, or-right (eqb (r .kind) 1) true refl, keep-many k rows)
 
-many-rows : (t : Text) (k : ℕ) → forwardRows (replicate k all) (t ∷ []) ≡ manyRows 0 k t
+many-rows : (names : List Text) (k : ℕ) → forwardRows (replicate k all) names ≡ manyRows 0 k names
 unfolding forwardRows
-many-rows t k = rw (no-objects k 0, all-names t k 0) (keep-many t k k 0)
+many-rows names k = rw (no-objects k 0, all-names names k 0) (keep-many k (manyRows 0 k names))
 
-many-long : (t : Text) → length t ≡ 4096 → (k i : ℕ) → k * 8192 ≤ length (rowListOf (manyRows i k t))
-unfolding manyRows rowListOf
-many-long t h zero i = omega arith
-many-long t h (suc k) i =
-    let a = length-append (rowBytes (row 1 i t t)) (each (manyRows (suc i) k t) rowBytes) in
-    let b = row-length (row 1 i t t) in
+twice-long : (t : Text) → length t ≡ nameBytes → (m i j : ℕ) → m * (nameBytes + nameBytes) ≤ length (rowListOf (twiceRows i j (replicate m t)))
+unfolding twiceRows rowListOf
+twice-long t h zero i j = omega arith
+twice-long t h (suc m) i j =
+    let a = length-append (rowBytes (row (suc j) i t t)) (each (twiceRows i (suc j) (replicate m t)) rowBytes) in
+    let b = row-length (row (suc j) i t t) in
     let c = length-append (numberBytes (suc (length t))) t in
-    let d = many-long t h k (suc i) in
+    let d = twice-long t h m i (suc j) in
     omega arith
 
-back-any-size : (k : ℕ) → k ≡ 256 → ReadBackOfAnySize → ⊥
+-- so many long names are enough, with a list of specs
+abbrev enough : ℕ
+enough = rowListBytes / (specCount * (nameBytes + nameBytes)) + 1
+
+abbrev longNames : List Text
+longNames = replicate enough (replicate nameBytes 97)
+
+many-long : (k i : ℕ) → k * (enough * (nameBytes + nameBytes)) ≤ length (rowListOf (manyRows i k longNames))
+unfolding manyRows rowListOf
+many-long zero i = omega arith
+many-long (suc k) i =
+    let a = each-append (twiceRows i 0 longNames) (manyRows (suc i) k longNames) rowBytes in
+    let b = length-append (each (twiceRows i 0 longNames) rowBytes) (each (manyRows (suc i) k longNames) rowBytes) in
+    let c = twice-long (replicate nameBytes 97) (length-replicate {A = ℕ} nameBytes 97) enough i 0 in
+    let d = many-long k (suc i) in
+    omega (arith, ap length a)
+
+long-read : readItems (recordBytes longNames) ≡ accepted longNames
+unfolding everything
+long-read = refl
+
+back-any-size : (k : ℕ) → k ≡ specCount → ReadBackOfAnySize → ⊥
 unfolding everything
 back-any-size k e f =
-    let q = f (recordBytes (replicate 256 (bytes "*:*"))) (128 ∷ 32 ∷ replicate 4096 97) (replicate k all) (replicate 4096 97 ∷ []) (rw e) refl in
-    let l = many-long (replicate 4096 97) (length-replicate {A = ℕ} 4096 97) k 0 in
-    let s : 1048576 < length (rowListOf (forwardRows (replicate k all) (replicate 4096 97 ∷ []))) = rw (many-rows (replicate 4096 97) k) (omega arith) in
-    refused-accepted (sym (rows-long (length (replicate k all)) (rowListOf (forwardRows (replicate k all) (replicate 4096 97 ∷ []))) s) ∙ q)
+    let q = f (recordBytes (replicate specCount (bytes "*:*"))) (recordBytes longNames) (replicate k all) longNames (rw e) long-read in
+    let s : rowListBytes < length (rowListOf (forwardRows (replicate k all) longNames)) = rw (many-rows longNames k) (omega (arith, many-long k 0)) in
+    refused-accepted (sym (rows-long (length (replicate k all)) (rowListOf (forwardRows (replicate k all) longNames)) s) ∙ q)
 
 -- spec 0 is not among no specs
 back-under-none : ReadBackUnderNone → ⊥
@@ -246,12 +278,15 @@ grows k = 64 ∷ 58 ∷ replicate k 97
 abbrev grown : ℕ → Spec
 grown k = spec Normal (bytes "HEAD") (some (replicate k 97))
 
--- 4,096 bytes grow to 4,099
+-- the longest spec grows by three bytes
 canonical-any-length : CanonicalOfAnyLength → ⊥
 unfolding everything noPlus
-canonical-any-length f = refused-accepted (f (textBytes (grows 4094)) (grown 4094 ∷ []) refl (lit≤ tt) refl .1)
+canonical-any-length f = refused-accepted (f (textBytes (grows (specBytes - 2))) (grown (specBytes - 2) ∷ []) refl (lit≤ tt) refl .1)
 
--- sixteen times 4,093 bytes grow to sixteen times 4,096, a list of 65,568
+-- sixteen specs grow to texts of the full length, which are too many bytes for a list
+
+abbrev letters : ℕ
+letters = specBytes - 5
 
 in-replicate : {A : Type 0} (a : A) (k : ℕ) {x : A} → In x (replicate k a) → x ≡ a
 in-replicate a zero m = elim m [ ]
@@ -261,23 +296,23 @@ in-replicate a (suc k) m = first (in-replicate a k) m
     first f here = refl
     first f (there n) = f n
 
-grown-reads : readSpec 0 (grows 4091) ≡ accepted (grown 4091)
+grown-reads : readSpec 0 (grows letters) ≡ accepted (grown letters)
 unfolding everything
 grown-reads = refl
 
-sixteen-read : readSpecs 0 (recordBytes (map (λ (s : Spec). grows 4091) (replicate 16 (grown 4091)))) ≡ accepted (map (λ (s : Spec). s) (replicate 16 (grown 4091)))
+sixteen-read : readSpecs 0 (recordBytes (map (λ (s : Spec). grows letters) (replicate 16 (grown letters)))) ≡ accepted (map (λ (s : Spec). s) (replicate 16 (grown letters)))
 unfolding everything
-sixteen-read = specs-written 0 (lit≤ tt) (λ (s : Spec). grows 4091) (λ (s : Spec). s) (replicate 16 (grown 4091)) (lit≤ tt) (λ s m. lit≤ tt) (λ s m. rw (in-replicate (grown 4091) 16 m) grown-reads) (lit≤ tt)
+sixteen-read = specs-written 0 (lit≤ tt) (λ (s : Spec). grows letters) (λ (s : Spec). s) (replicate 16 (grown letters)) (lit≤ tt) (λ s m. lit≤ tt) (λ s m. rw (in-replicate (grown letters) 16 m) grown-reads) (lit≤ tt)
 
-sixteen-long : 65535 < length (canonicalList (replicate 16 (grown 4091)))
+sixteen-long : specListBytes < length (canonicalList (replicate 16 (grown letters)))
 unfolding everything
 sixteen-long = lit< tt
 
 canonical-any-list : CanonicalOfAnyList → ⊥
 unfolding everything textFits noPlus
 canonical-any-list f =
-    let q = f (recordBytes (map (λ (s : Spec). grows 4091) (replicate 16 (grown 4091)))) (map (λ (s : Spec). s) (replicate 16 (grown 4091))) sixteen-read refl refl in
-    refused-accepted (sym (specs-long 0 (canonicalList (replicate 16 (grown 4091))) (lit≤ tt) sixteen-long) ∙ q .1)
+    let q = f (recordBytes (map (λ (s : Spec). grows letters) (replicate 16 (grown letters)))) (map (λ (s : Spec). s) (replicate 16 (grown letters))) sixteen-read refl refl in
+    refused-accepted (sym (specs-long 0 (canonicalList (replicate 16 (grown letters))) (lit≤ tt) sixteen-long) ∙ q .1)
 
 -- how many bytes an answer has for the first buffer
 firstLength : Answer Written → ℕ
@@ -315,8 +350,8 @@ false-variants =
       conflicts-by-destination = by-destination;
       conflicts-of-kept-rows = of-kept;
       read-back-of-any-specs = back-any-specs;
-      read-back-of-any-names = back-any-names 2097151 refl;
-      read-back-of-any-size = back-any-size 256 refl;
+      read-back-of-any-names = back-any-names largestNumber refl;
+      read-back-of-any-size = back-any-size specCount refl;
       read-back-under-none = back-under-none;
       map-back-of-any-spec = back-any-spec;
       map-back-one-sided = back-one-sided;

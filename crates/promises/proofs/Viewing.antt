@@ -10,6 +10,7 @@ use lib.Dec.{eqb, leb, ltb}
 use lib.ListN.{length, take, drop, length-append, take-append-drop}
 use lib.Seq.{take-append-seam, drop-append-seam}
 use Rattle.meaning.specs.Bytes.{Text, bytes, _and_, every, same, hexDigit, objectId}
+use Rattle.meaning.specs.Limits.{nameBytes, specListBytes, itemListBytes, specCount, itemCount, numberGroups, idDigits}
 use Rattle.meaning.specs.Spec.{Answer, accepted, refused, Mode, Normal, Force, Negative, Spec, isNegative, modeOfByte, modeOf, signOff, unsigned, sidesOf, left, supplied, named, sourceOf, specFrom, specOf, readSpec}
 use Rattle.meaning.specs.Number.{Step, took, no, Reader, stepThen, _>>=_, give, need, groupBefore, readGroups, readNumber, readBytes, readText}
 use Rattle.meaning.specs.Lists.{withFirst, recordThen, recordsFrom, readList, answered, specRecord, itemRecord, readSpecs, readItems}
@@ -43,7 +44,7 @@ groups-left (suc k) (b ∷ s) n r e = go (groups-left k s) (ltb b 128) e
 
 number-left : (s : Text) (n : ℕ) (r : Text) → readNumber s ≡ took n r → (p : Text) × (s ≡ p ++ r)
 unfolding readNumber
-number-left s n r e = groups-left 3 s n r e
+number-left s n r e = groups-left numberGroups s n r e
 
 bytes-left : (n : ℕ) (s t r : Text) → readBytes n s ≡ took t r → s ≡ t ++ r
 unfolding readBytes
@@ -136,9 +137,9 @@ module _ {B : Type 0} (one : ℕ → Reader B) (R : Text → B → Type 0) (read
 pub item-reads : (i : ℕ) (s : Text) (b : Text) (rest : Text) → itemRecord i s ≡ took b rest → (t : Text) × (readText s ≡ took t rest) × (t ≡ b)
 unfolding itemRecord
 item-reads i s b rest e =
-    let p : stepThen (readText s) (λ t. need 15 (leb (length t) 4096) (give t)) ≡ took b rest = rw (need-yes 14 (ltb i 1024) (readText >>= λ t. need 15 (leb (length t) 4096) (give t)) s e) at e in
-    let q = step-took (readText s) (λ t. need 15 (leb (length t) 4096) (give t)) p in
-    let y = need-yes 15 (leb (length (q .0)) 4096) (give (q .0)) (q .1) (q .3) in
+    let p : stepThen (readText s) (λ t. need 15 (leb (length t) nameBytes) (give t)) ≡ took b rest = rw (need-yes 14 (ltb i itemCount) (readText >>= λ t. need 15 (leb (length t) nameBytes) (give t)) s e) at e in
+    let q = step-took (readText s) (λ t. need 15 (leb (length t) nameBytes) (give t)) p in
+    let y = need-yes 15 (leb (length (q .0)) nameBytes) (give (q .0)) (q .1) (q .3) in
     let g : took (q .0) (q .1) ≡ took b rest = rw y at (q .3) in
     let u : q .0 ≡ b = cc in
     let v : q .1 ≡ rest = cc in
@@ -148,7 +149,7 @@ item-reads i s b rest e =
 pub spec-reads : (op i : ℕ) (s : Text) (b : Spec) (rest : Text) → specRecord op i s ≡ took b rest → (t : Text) × (readText s ≡ took t rest) × (readSpec op t ≡ accepted b)
 unfolding specRecord
 spec-reads op i s b rest e =
-    let p : stepThen (readText s) (λ t. answered (readSpec op t)) ≡ took b rest = rw (need-yes 14 (ltb i 256) (readText >>= λ t. answered (readSpec op t)) s e) at e in
+    let p : stepThen (readText s) (λ t. answered (readSpec op t)) ≡ took b rest = rw (need-yes 14 (ltb i specCount) (readText >>= λ t. answered (readSpec op t)) s e) at e in
     let q = step-took (readText s) (λ t. answered (readSpec op t)) p in
     let a = answered-took (readSpec op (q .0)) (q .1) (q .3) in
     let g : took b (q .1) ≡ took b rest = rw a at (q .3) in
@@ -174,7 +175,7 @@ unsigned-is (x ∷ t) = go (modeOfByte x)
     go Negative = (x ∷ [], refl)
 
 -- a source of forty bytes is the side as it stands
-source-is : (op : ℕ) (m : Mode) (l d : Text) → length d ≡ 40 → sourceOf op m l ≡ some d → l ≡ d
+source-is : (op : ℕ) (m : Mode) (l d : Text) → length d ≡ idDigits → sourceOf op m l ≡ some d → l ≡ d
 unfolding supplied named
 source-is op m [] d h e = go (eqb op 0 and not (isNegative m)) e
   where
@@ -188,9 +189,9 @@ source-is op m (x ∷ l) d h e = go (same (x ∷ l) (bytes "@")) e
     go false p = cc
 
 -- an object id has forty bytes
-pub object-length : (d : Text) → objectId d ≡ true → length d ≡ 40
+pub object-length : (d : Text) → objectId d ≡ true → length d ≡ idDigits
 unfolding objectId
-object-length d e = eqb-true (length d) 40 (and-left (eqb (length d) 40) (every hexDigit d) e)
+object-length d e = eqb-true (length d) idDigits (and-left (eqb (length d) idDigits) (every hexDigit d) e)
 
 -- the digits of an object source begin its text after the sign
 pub digits-begin : (op : ℕ) (t : Text) (s : Spec) (d : Text) → readSpec op t ≡ accepted s → objectSource s ≡ some d → (rest : Text) × (unsigned t ≡ d ++ rest)
@@ -204,7 +205,7 @@ digits-begin op t s d e o =
     (b .0, b .1 ∙ ap (λ (x : Text). x ++ b .0) l)
 
 -- so they do in the list
-digits-in : (d rest after : Text) → length d ≡ 40 → (t : Text) → unsigned t ≡ d ++ rest → unsigned (t ++ after) ≡ d ++ (rest ++ after)
+digits-in : (d rest after : Text) → length d ≡ idDigits → (t : Text) → unsigned t ≡ d ++ rest → unsigned (t ++ after) ≡ d ++ (rest ++ after)
 digits-in d rest after h [] e = absurd (omega (arith, ap length e, length-append d rest))
 digits-in d rest after h (x ∷ t) e = unsigned-append x t after ∙ ap (λ (k : Text). k ++ after) e ∙ append-assoc d rest after
 
@@ -221,7 +222,7 @@ module _ (specs items : Text) (p : Part) where
   unfolding readItems
   item-view names j f none n e = absurd (refused-not e)
   item-view names j f (some t) n e =
-      let g = found-list itemRecord (λ u v. u ≡ v) item-reads 65535 items names f j t n in
+      let g = found-list itemRecord (λ u v. u ≡ v) item-reads itemListBytes items names f j t n in
       let k = g .1 in
       let a : items ≡ k .before ++ (t ++ k .after) = k .all-is ∙ ap (λ (x : Text). k .before ++ (x ++ k .after)) (g .2) in
       let l : fromRecord j items ≡ t ++ k .after = k .left-is ∙ ap (λ (x : Text). x ++ k .after) (g .2) in
@@ -231,7 +232,7 @@ module _ (specs items : Text) (p : Part) where
   digits-view : (op : ℕ) (group : List Spec) (i : ℕ) → readSpecs op specs ≡ accepted group → (s : Spec) → nth group i ≡ some s → (o : Option Text) → objectSource s ≡ o → digitsPart specs i o ≡ accepted p → objectSource s ≡ some (partText p specs items)
   digits-view op group i f s n none q e = absurd (refused-not e)
   digits-view op group i f s n (some d) q e =
-      let g = found-list (specRecord op) (λ t b. readSpec op t ≡ accepted b) (spec-reads op) 65535 specs group (specs-list op specs group f) i s n in
+      let g = found-list (specRecord op) (λ t b. readSpec op t ≡ accepted b) (spec-reads op) specListBytes specs group (specs-list op specs group f) i s n in
       let t = g .0 in
       let k = g .1 in
       let h = object-length d (object-source s d q .1) in

@@ -45,7 +45,7 @@ ListingsReadBack =
 -- "Whatever the items, in a fetch group where every spec with a destination has patterns on both sides or begins both with refs/, take
 -- any kept destination of at most 4,096 bytes: in every reverse listing under the group whose item list holds it, a forward item
 -- stands as its source exactly when the item's name is the kept row's source."
--- It holds of any specs and any names, so of every fetch group and of item lists, whose names have at most 4,096 bytes. The entries
+-- It holds of any specs and any names, so of every fetch group and of every item list. The entries
 -- `matchLhs`, `validated` and `matchRhs` answer the bytes of these rows (RowsAnswered).
 abbrev pub KeptMapBack : Type 0
 KeptMapBack =

@@ -1,5 +1,5 @@
 -- What the definitions come to, where a definition says it by a walk.
-use Prim.Native.Nat.{ℕ, zero, suc, _+_, _-_, _*_, _≤_, _<_}
+use Prim.Native.Nat.{ℕ, zero, suc, _+_, _-_, _*_, _^_, _≤_, _<_}
 use mathlib.Core.Path.{_≡_}
 use mathlib.Core.Logic.{_↔_}
 use mathlib.Core.Bool.{Bool, true, false}
@@ -8,6 +8,7 @@ use mathlib.Core.Option.{some}
 use lib.Dec.{ltb}
 use lib.ListN.{length}
 use Rattle.meaning.specs.Bytes.{Text, every, colon, hasByte, inOrder, In, Ascending}
+use Rattle.meaning.specs.Limits.{specBytes, nameBytes, rowListBytes, specCount, itemCount, decimalDigits}
 use Rattle.meaning.specs.Spec.{Answer, accepted, Spec, one, two, sidesOf}
 use Rattle.meaning.specs.Prefix.{GroupPrefixes}
 use Rattle.meaning.specs.Number.{recordBytes, Reader}
@@ -72,13 +73,13 @@ pub record RecordByRecord {B : Type 0} (read : ℕ → Reader B) : Type 0 where
 abbrev pub ListsRecordByRecord : Type 0
 ListsRecordByRecord = ((op : ℕ) → RecordByRecord (specRecord op)) × RecordByRecord itemRecord × ((specs : ℕ) → RecordByRecord (rowRecord specs))
 
--- a number of a row is small enough to be written in three groups
+-- a number of a row is small enough to be written
 pub record RowFits (r : Row) : Type 0 where
-  pub item-fits : r .item ≤ 1024
-  pub spec-fits : r .spec < 256
+  pub item-fits : r .item ≤ itemCount
+  pub spec-fits : r .spec < specCount
   pub kind-fits : r .kind ≤ 1
-  pub source-fits : length (r .source) ≤ 8192
-  pub destination-fits : (d : Text) → r .destination ≡ some d → length d ≤ 8192
+  pub source-fits : length (r .source) ≤ specBytes + nameBytes
+  pub destination-fits : (d : Text) → r .destination ≡ some d → length d ≤ specBytes + nameBytes
 
 -- every row of either listing of lists that are read fits, whatever the operation and however long the listing
 abbrev pub RowNumbersFit : Type 0
@@ -95,7 +96,7 @@ spelledAfter n (x ∷ s) = spelledAfter (n * 10 + (x - 48)) s
 
 -- a printed number spells itself
 abbrev pub DecimalReads : Type 0
-DecimalReads = (n : ℕ) → n < 10000 → spelledAfter 0 (decimal n) ≡ n
+DecimalReads = (n : ℕ) → n < 10 ^ decimalDigits → spelledAfter 0 (decimal n) ≡ n
 
 -- the listing entries answer the bytes of the rows
 abbrev pub RowsAnswered : Type 0
@@ -133,8 +134,8 @@ OneSpelling =
 pub record ReadRowFits (specs : ℕ) (r : Row) : Type 0 where
   pub spec-fits : r .spec < specs
   pub kind-fits : r .kind ≤ 1
-  pub source-fits : length (r .source) < 1048576
-  pub destination-fits : (d : Text) → r .destination ≡ some d → length d < 1048576
+  pub source-fits : length (r .source) < rowListBytes
+  pub destination-fits : (d : Text) → r .destination ≡ some d → length d < rowListBytes
 
 -- every row of a row list fits, and there are fewer rows than a number can count
 abbrev pub ReadRowsFit : Type 0
@@ -142,4 +143,4 @@ ReadRowsFit =
     (specs : ℕ) (s : Text) (rows : List Row)
     → every isByte s ≡ true
     → readRows specs s ≡ accepted rows
-    → ((r : Row) → In r rows → ReadRowFits specs r) × (length rows ≤ 1048576)
+    → ((r : Row) → In r rows → ReadRowFits specs r) × (length rows ≤ rowListBytes)

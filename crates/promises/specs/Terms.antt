@@ -68,7 +68,7 @@ canonicalTexts group = map (canonicalText 0) group
 abbrev pub canonicalList : List Spec → Text
 canonicalList group = recordBytes (canonicalTexts group)
 
--- a canonical text is at most 4,096 bytes
+-- a canonical text is not longer than a spec may be
 unfoldable pub textFits : Spec → Bool
 textFits s = leb (length (canonicalText 0 s)) specBytes
 

@@ -169,7 +169,7 @@ CanonicalOfAnySpecs =
     → every noPlus group ≡ true
     → (group′ : List Spec) × (readSpecs 0 (canonicalList group) ≡ accepted group′)
 
--- a text may have more than 4,096 bytes
+-- a text may be longer than a spec
 abbrev pub CanonicalOfAnyLength : Type 0
 CanonicalOfAnyLength =
     (specs : Text) (group : List Spec)
@@ -178,7 +178,7 @@ CanonicalOfAnyLength =
     → every noPlus group ≡ true
     → (group′ : List Spec) × (readSpecs 0 (canonicalList group) ≡ accepted group′)
 
--- their list may have more than 65,535
+-- their list may be longer than a spec list
 abbrev pub CanonicalOfAnyList : Type 0
 CanonicalOfAnyList =
     (specs : Text) (group : List Spec)

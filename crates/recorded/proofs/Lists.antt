@@ -7,6 +7,7 @@ use borrow.Author.Tests.{le-leb}
 use lib.ListN.{length, getD, take, drop, length-append, length-drop}
 use lib.Seq.{drop-drop}
 use Rattle.meaning.specs.Bytes.{Text, each}
+use Rattle.meaning.specs.Limits.{largestNumber}
 use Rattle.meaning.specs.Number.{numberBytes, textBytes, recordBytes, took, no, readNumber, readBytes, readText}
 use Rattle.promises.proofs.Reading.{read-text, number-long}
 use Rattle.text.proofs.Rests.{rest-cons}
@@ -72,11 +73,11 @@ record First (l : List Text) (t rest : Text) : Type 0 where
   is : l ≡ t ∷ others
   follows : rest ≡ recordBytes others
 
-first-read : (l : List Text) (t rest : Text) → length (recordBytes l) ≤ 2097151 → readText (recordBytes l) ≡ took t rest → First l t rest
+first-read : (l : List Text) (t rest : Text) → length (recordBytes l) ≤ largestNumber → readText (recordBytes l) ≡ took t rest → First l t rest
 unfolding recordBytes
 first-read [] t rest h e = none-read t rest e
 first-read (u ∷ us) t rest h e =
-    let small : length u < 2097152 = omega (arith, text-within u (each us textBytes)) in
+    let small : length u ≤ largestNumber = omega (arith, text-within u (each us textBytes)) in
     let w : took u (each us textBytes) ≡ took t rest = sym (read-text u (each us textBytes) small) ∙ e in
     let a : u ≡ t = cc in
     let b : each us textBytes ≡ rest = cc in
@@ -93,9 +94,9 @@ module _ (s : Text) (start : ℕ) (list : Text) (l : List Text) where
   passing-starts h e = record { done = []; left = l; all = refl; rest = e; count = refl; stands = record { is = refl; within = omega arith } }
 
   module _ (next at k : ℕ) (p : Passing s start list l next at k) where
-    passing-more : (n a : ℕ) → length list ≤ 2097151 → BothRead s next list at n a → Passing s start list l n a (k + 1)
+    passing-more : (n a : ℕ) → length list ≤ largestNumber → BothRead s next list at n a → Passing s start list l n a (k + 1)
     passing-more n a h b =
-        let few : length (recordBytes (p .left)) ≤ 2097151 = omega (arith, ap length (p .rest), length-drop at list) in
+        let few : length (recordBytes (p .left)) ≤ largestNumber = omega (arith, ap length (p .rest), length-drop at list) in
         let m = first-read (p .left) (b .text) (drop a list) few (ap readText (sym (p .rest)) ∙ b .reads) in
         let all : l ≡ (p .done ++ (b .text ∷ [])) ++ m .others = p .all ∙ ap (λ (x : List Text). p .done ++ x) (m .is) ∙ sym (append-assoc (p .done) (b .text ∷ []) (m .others)) in
         record {
@@ -123,7 +124,7 @@ module _ (s list : Text) (next at : ℕ) (r : Passed) (n a : ℕ) (b : PassedRec
   pub turn-within : n ≤ length s
   turn-within = read .stands .within
 
-  pub turn-passes : (start k : ℕ) → ((l : List Text) → list ≡ recordBytes l → Passing s start list l next at k) → length list ≤ 2097151 → (l : List Text) → list ≡ recordBytes l → Passing s start list l n a (k + 1)
+  pub turn-passes : (start k : ℕ) → ((l : List Text) → list ≡ recordBytes l → Passing s start list l next at k) → length list ≤ largestNumber → (l : List Text) → list ≡ recordBytes l → Passing s start list l n a (k + 1)
   turn-passes start k all h l q = passing-more s start list l next at k (all l q) n a h read
 
 -- its end

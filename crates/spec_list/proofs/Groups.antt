@@ -10,6 +10,7 @@ use borrow.Author.Tests.{le-leb, lt-leb}
 use lib.ListN.{length, take, drop, set, length-set, length-take, length-map, drop-of-length-le}
 use lib.Seq.{length-take-le, take-suc-set, drop-cons}
 use Rattle.meaning.specs.Bytes.{Text}
+use Rattle.meaning.specs.Limits.{specListBytes, specCount}
 use Rattle.meaning.specs.Spec.{Answer, accepted, refused, Spec}
 use Rattle.meaning.specs.Lists.{withFirst, specRecord, readSpecs}
 use Rattle.promises.specs.Facts.{records}
@@ -47,13 +48,13 @@ within-more len (p ∷ l) q w h = (w .0, within-more len l q (w .1) h)
 
 -- a spec list is read into a table as far as a place, with j specs behind it
 pub record Filling (op : ℕ) (s : Text) (t : List SpecRecord) (at j : ℕ) : Type 0 where
-  pub size : length t ≡ 256
-  pub count : j ≤ 256
+  pub size : length t ≡ specCount
+  pub count : j ≤ specCount
   pub whole : readAfter (groupMeant s (take j t)) (records (specRecord op) j (drop at s)) ≡ records (specRecord op) 0 s
   pub sides : AllWithin (length s) (take j t)
 
 -- nothing is read yet
-pub filling-starts : (op : ℕ) (s : Text) (t : List SpecRecord) (at : ℕ) → length t ≡ 256 → at ≡ 0 → Filling op s t at 0
+pub filling-starts : (op : ℕ) (s : Text) (t : List SpecRecord) (at : ℕ) → length t ≡ specCount → at ≡ 0 → Filling op s t at 0
 filling-starts op s t at h e = record { size = h; count = omega arith; whole = rw e (after-none (records (specRecord op) 0 s)); sides = tt }
 
 module _ (op : ℕ) (s : Text) (t : List SpecRecord) (at j : ℕ) (f : Filling op s t at j) (w : SpecStep) (says : SpecSays op j s at w) where
@@ -62,7 +63,7 @@ module _ (op : ℕ) (s : Text) (t : List SpecRecord) (at j : ℕ) (f : Filling o
     told = rw e at says
 
     -- there is a place for it
-    pub filling-room : j < 256
+    pub filling-room : j < specCount
     filling-room = told .number
 
     -- less of the list is left
@@ -70,8 +71,8 @@ module _ (op : ℕ) (s : Text) (t : List SpecRecord) (at j : ℕ) (f : Filling o
     filling-less = omega (arith, told .on, told .within)
 
     -- its sides are small enough for a record
-    pub filling-small : length s ≤ 65535 → SidesWithin 65535 r
-    filling-small h = record { src-within = side-wider (length s) 65535 (r .src) h (told .sides .src-within); dst-within = side-wider (length s) 65535 (r .dst) h (told .sides .dst-within) }
+    pub filling-small : length s ≤ specListBytes → SidesWithin specListBytes r
+    filling-small h = record { src-within = side-wider (length s) specListBytes (r .src) h (told .sides .src-within); dst-within = side-wider (length s) specListBytes (r .dst) h (told .sides .dst-within) }
 
     -- one more spec, as a record of it
     pub filling-more : (y : SpecRecord) → specFrom y ≡ r → Filling op s (set t j y) (next .at) (j + 1)
@@ -112,12 +113,12 @@ module _ (op : ℕ) (s : Text) (g : Group) where
   unfolding readSpecs
   group-no-operation h r = rw (lt-leb op 1 h) r
 
-  pub group-too-long : op ≤ 1 → 65535 < length s → GroupRefused g 12 none → GroupRead s g (readSpecs op s)
+  pub group-too-long : op ≤ 1 → specListBytes < length s → GroupRefused g 12 none → GroupRead s g (readSpecs op s)
   group-too-long h k r = rw (specs-long op s h k) r
 
-  pub group-is : op ≤ 1 → length s ≤ 65535 → GroupRead s g (records (specRecord op) 0 s) → GroupRead s g (readSpecs op s)
+  pub group-is : op ≤ 1 → length s ≤ specListBytes → GroupRead s g (records (specRecord op) 0 s) → GroupRead s g (readSpecs op s)
   unfolding readSpecs
-  group-is h k r = rw (le-leb op 1 h, list-records 65535 (specRecord op) s k) r
+  group-is h k r = rw (le-leb op 1 h, list-records specListBytes (specRecord op) s k) r
 
 -- record i of a table that is lent, as `spec_of` hands it on
 
@@ -126,7 +127,7 @@ all-within len [] i h w = absurd (omega arith)
 all-within len (r ∷ l) zero h w = w .0
 all-within len (r ∷ l) (suc i) h w = all-within len l i (omega arith) (w .1)
 
-module _ (t : List SpecRecord) (n i : ℕ) (r : SpecRecord) (is : r ≡ specAt (take n t) i) (size : length t ≡ 256) (few : n ≤ 256) (below : i < n) where
+module _ (t : List SpecRecord) (n i : ℕ) (r : SpecRecord) (is : r ≡ specAt (take n t) i) (size : length t ≡ specCount) (few : n ≤ specCount) (below : i < n) where
   there : i < length (take n t)
   there = omega (arith, length-take-le n t (omega arith))
 

@@ -9,6 +9,7 @@ use mir.Syntax.{w64}
 use lib.ListN.{take, drop}
 use lib.Seq.{drop-drop, take-take}
 use Rattle.meaning.specs.Bytes.{Text}
+use Rattle.meaning.specs.Limits.{specListBytes}
 use Rattle.parse.specs.declared.types.Side.{Side}
 use Rattle.parse.specs.declared.types.Side.the-variants.{Absent, Part, Head}
 use Rattle.parse.specs.declared.types.RefSpec.{RefSpec}
@@ -27,7 +28,7 @@ pub part-part : (s : Text) (start len at n : ℕ) → at + n ≤ len → partAt 
 part-part s start len at n h = take-within at n len (drop start s) h ∙ rw (drop-drop at start s)
 
 -- the sum of two places is a machine's number
-pub shift-fits : (start len : ℕ) (side : Side) (at n : ℕ) → Within len side → start + len ≤ 65535 → side ≡ Part at n → Fits w64 (start + at)
+pub shift-fits : (start len : ℕ) (side : Side) (at n : ℕ) → Within len side → start + len ≤ specListBytes → side ≡ Part at n → Fits w64 (start + at)
 shift-fits start len side at n w h e = let k : at + n ≤ len = rw e at w in omega arith
 
 -- the answers of `shifted_side` and `shifted`

@@ -5,6 +5,7 @@ use native.Mathlib.Omega.{arith}
 use borrow.Author.Tests.{le-leb, lt-leb}
 use lib.ListN.{length}
 use Rattle.meaning.specs.Bytes.{Text}
+use Rattle.meaning.specs.Limits.{specListBytes}
 use Rattle.meaning.specs.Lists.{specRecord, readSpecs}
 use Rattle.promises.specs.Facts.{records}
 use Rattle.promises.proofs.Members.{specs-long}
@@ -50,9 +51,9 @@ module _ (op : ℕ) (s : Text) where
   unfolding readSpecs
   specs-no-operation h = rw (lt-leb op 1 h)
 
-  pub specs-too-long : op ≤ 1 → 65535 < length s → record { refusal = 12; «record» = 0; count = 0 } ≡ checked (readSpecs op s)
+  pub specs-too-long : op ≤ 1 → specListBytes < length s → record { refusal = 12; «record» = 0; count = 0 } ≡ checked (readSpecs op s)
   specs-too-long h k = rw (specs-long op s h k)
 
-  pub specs-are : (r : Checked) → op ≤ 1 → length s ≤ 65535 → r ≡ checked (records (specRecord op) 0 s) → r ≡ checked (readSpecs op s)
+  pub specs-are : (r : Checked) → op ≤ 1 → length s ≤ specListBytes → r ≡ checked (records (specRecord op) 0 s) → r ≡ checked (readSpecs op s)
   unfolding readSpecs
-  specs-are r h k e = rw (le-leb op 1 h, list-records 65535 (specRecord op) s k) e
+  specs-are r h k e = rw (le-leb op 1 h, list-records specListBytes (specRecord op) s k) e

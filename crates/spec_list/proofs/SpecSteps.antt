@@ -6,6 +6,7 @@ use native.Mathlib.Omega.{arith}
 use borrow.Author.Tests.{lt-ltb, le-ltb}
 use lib.ListN.{length, take, drop}
 use Rattle.meaning.specs.Bytes.{Text}
+use Rattle.meaning.specs.Limits.{specCount}
 use Rattle.meaning.specs.Spec.{accepted, refused, Spec, readSpec}
 use Rattle.meaning.specs.Number as meaning
 use Rattle.meaning.specs.Lists.{specRecord}
@@ -25,27 +26,27 @@ use Rattle.spec_list.specs.Group.{shifted, SpecIn, SpecTurned, SpecSays}
 use Rattle.list.proofs.Steps.{Taken, step-taken, step-end, step-refused}
 use Rattle.spec_list.proofs.Shifts.{spec-shifted, sides-shifted}
 
--- 256 specs are behind it
-spec-beyond : (op j : ℕ) (s : Text) → 256 ≤ j → specRecord op j s ≡ meaning.no 14
+-- as many specs as a list may have are behind it
+spec-beyond : (op j : ℕ) (s : Text) → specCount ≤ j → specRecord op j s ≡ meaning.no 14
 unfolding specRecord
-spec-beyond op j s h = rw (le-ltb j 256 h)
+spec-beyond op j s h = rw (le-ltb j specCount h)
 
-module _ (op j : ℕ) (s : Text) (h : j < 256) where
+module _ (op j : ℕ) (s : Text) (h : j < specCount) where
   -- it is not well formed
   spec-malformed : meaning.readText s ≡ meaning.no 13 → specRecord op j s ≡ meaning.no 13
   unfolding specRecord
-  spec-malformed e = rw (lt-ltb j 256 h, e)
+  spec-malformed e = rw (lt-ltb j specCount h, e)
 
   module _ (t rest : Text) (e : meaning.readText s ≡ meaning.took t rest) where
     -- a question of its own refuses it
     spec-refused : (n : ℕ) → readSpec op t ≡ refused n none → specRecord op j s ≡ meaning.no n
     unfolding specRecord
-    spec-refused n f = rw (lt-ltb j 256 h, e, f)
+    spec-refused n f = rw (lt-ltb j specCount h, e, f)
 
     -- it is read
     spec-read : (x : Spec) → readSpec op t ≡ accepted x → specRecord op j s ≡ meaning.took x rest
     unfolding specRecord
-    spec-read x f = rw (lt-ltb j 256 h, e, f)
+    spec-read x f = rw (lt-ltb j specCount h, e, f)
 
 -- the answers of `spec_in`
 module _ (op : ℕ) (s : Text) (start len : ℕ) (inside : start + len ≤ length s) (p : Parsed) (ep : p ≡ parsed op (take (start + len - start) (drop start s))) where
@@ -68,14 +69,14 @@ module _ (op : ℕ) (s : Text) (start len : ℕ) (inside : start + len ≤ lengt
 
 -- the answers of `spec_at`
 module _ (op j : ℕ) (s : Text) (at : ℕ) where
-  pub spec-full : at < length s → 256 ≤ j → SpecTurned op j s at 14
+  pub spec-full : at < length s → specCount ≤ j → SpecTurned op j s at 14
   spec-full h k = record { here = h; reads = spec-beyond op j (drop at s) k }
 
   module _ (w : Step) (ew : w ≡ stepAt s at) where
     pub spec-none : w ≡ End → length s ≤ at
     spec-none e = step-end s at (sym ew ∙ e)
 
-    pub spec-stop : (n : ℕ) → j < 256 → w ≡ Refused n → SpecTurned op j s at n
+    pub spec-stop : (n : ℕ) → j < specCount → w ≡ Refused n → SpecTurned op j s at n
     spec-stop n h e =
         let t = step-refused s at n (sym ew ∙ e) in
         record { here = t .here; reads = rw (t .is) (spec-malformed op j (drop at s) h (t .reads)) }
@@ -87,7 +88,7 @@ module _ (op j : ℕ) (s : Text) (at : ℕ) where
       pub spec-inside : start + len ≤ length s
       spec-inside = omega (arith, stood .ends, stood .within)
 
-      told : j < 256 → (r : SpecStep) → SpecIn op s start len next r → SpecSays op j s at r
+      told : j < specCount → (r : SpecStep) → SpecIn op s start len next r → SpecSays op j s at r
       told h (found.Spec q after) i =
           let t = stood in
           record {
@@ -101,5 +102,5 @@ module _ (op j : ℕ) (s : Text) (at : ℕ) where
       told h found.End i = absurd i
       told h (found.Refused n) i = let t = stood in record { here = t .here; reads = spec-refused op j (drop at s) h (partAt s start len) (drop (next .at) s) (t .reads) n i }
 
-      pub spec-there : (r : SpecStep) → j < 256 → SpecIn op s start len next r → SpecSays op j s at r
+      pub spec-there : (r : SpecStep) → j < specCount → SpecIn op s start len next r → SpecSays op j s at r
       spec-there r h i = told h r i

@@ -5,6 +5,7 @@ use mathlib.Core.List.{List, [], _∷_, map}
 use mathlib.Core.Option.{Option, none}
 use lib.ListN.{length, take, drop}
 use Rattle.meaning.specs.Bytes.{Text}
+use Rattle.meaning.specs.Limits.{specCount}
 use Rattle.meaning.specs.Buffers.{orZero}
 use Rattle.meaning.specs.Spec.{Answer, accepted, refused, Spec, readSpec}
 use Rattle.meaning.specs.Number.{took, no}
@@ -48,7 +49,7 @@ pub record GroupIs (list : Text) (g : Group) (group : List Spec) : Type 0 where
   pub refusal-is : g .refusal ≡ 0
   pub record-is : g .«record» ≡ 0
   pub count-is : g .count ≡ length group
-  pub count-within : g .count ≤ 256
+  pub count-within : g .count ≤ specCount
   pub means : groupMeant list (take (g .count) (g .specs)) ≡ group
   pub within : AllWithin (length list) (take (g .count) (g .specs))
 
@@ -75,7 +76,7 @@ pub record SpecTaken (op j : ℕ) (s : Text) (at : ℕ) (r : RefSpec) (next : �
   pub here : at < length s
   pub reads : specRecord op j (drop at s) ≡ took (specMeant s r) (drop next s)
   pub sides : SidesWithin (length s) r
-  pub number : j < 256
+  pub number : j < specCount
   pub on : at < next
   pub within : next ≤ length s
 

@@ -3,7 +3,7 @@ ghost use mathlib.Core.Path.{_≡_};
 ghost use mathlib.Core.Option.{none};
 ghost use Prim.Native.Nat.{_+_, _<_, _≤_};
 ghost use lib.ListN.{length};
-ghost use Rattle.meaning.specs.Limits.{specListBytes};
+ghost use Rattle.meaning.specs.Limits.{specListBytes, specCount};
 ghost use Rattle.meaning.specs.Lists.{specRecord, readSpecs};
 ghost use Rattle.promises.specs.Facts.{records};
 ghost use Rattle.parse.specs.Places.{Within, SidesWithin};
@@ -102,7 +102,7 @@ fn spec_at(op: u64, list: &[u8], c: Cursor, count: usize) -> SpecStep
 
 // A table with no specs.
 fn no_specs() -> [SpecRecord; SPEC_COUNT]
-    ensures { λ t. ⌜ length t ≡ 256 ⌝ }
+    ensures { λ t. ⌜ length t ≡ specCount ⌝ }
 {
     let none = SpecRecord {
         mode: Mode::Normal,

@@ -1,4 +1,4 @@
-// A spec of a group in fourteen bytes, so that a table of 256 is soon cleared and copied: its mode, and each side as three numbers.
+// A spec of a group in fourteen bytes, so that the table of a list is soon cleared and copied: its mode, and each side as three numbers.
 ghost use mathlib.Core.Path.{_≡_};
 ghost use Rattle.meaning.specs.Limits.{specListBytes};
 ghost use Rattle.parse.specs.Places.{SidesWithin};

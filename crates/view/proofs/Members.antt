@@ -8,6 +8,7 @@ use native.Mathlib.Omega.{arith}
 use lib.Dec.{leb}
 use lib.ListN.{length}
 use Rattle.meaning.specs.Bytes.{Text}
+use Rattle.meaning.specs.Limits.{specListBytes, itemListBytes}
 use Rattle.meaning.specs.Spec.{Answer, accepted, refused, Spec, readSpec}
 use Rattle.meaning.specs.Number.{Step, took, no, Reader, readNumber, readBytes, readText}
 use Rattle.meaning.specs.Lists.{withFirst, recordThen, recordsFrom, readList, specRecord, itemRecord, readSpecs, readItems}
@@ -80,14 +81,14 @@ spec-leaves op i s b rest e = ap leftBy (spec-reads op i s b rest e .1)
 pub item-text : (items : Text) (names : List Text) (j : ℕ) (t : Text) → readItems items ≡ accepted names → nth names j ≡ some t → (rest : Text) × (readText (afterRecords j items) ≡ took t rest)
 unfolding readItems
 item-text items names j t e h =
-    let g = reached-list itemRecord item-leaves 65535 items names e j t h in
+    let g = reached-list itemRecord item-leaves itemListBytes items names e j t h in
     let r = item-reads (g .0) (afterRecords j items) t (g .1) (g .2) in
     (g .1, r .1 ∙ ap (λ (x : Text). took x (g .1)) (r .2))
 
 -- a spec is read from the text of its record
 pub spec-text : (op : ℕ) (specs : Text) (group : List Spec) (i : ℕ) (s : Spec) → readSpecs op specs ≡ accepted group → nth group i ≡ some s → (t : Text) × (rest : Text) × (readText (afterRecords i specs) ≡ took t rest) × (readSpec op t ≡ accepted s)
 spec-text op specs group i s e h =
-    let g = reached-list (specRecord op) (spec-leaves op) 65535 specs group (specs-list op specs group e) i s h in
+    let g = reached-list (specRecord op) (spec-leaves op) specListBytes specs group (specs-list op specs group e) i s h in
     let r = spec-reads op (g .0) (afterRecords i specs) s (g .1) (g .2) in
     (r .0, g .1, r .1, r .2)
 

@@ -10,6 +10,7 @@ use lib.Dec.{eqb, leb}
 use lib.ListN.{length, take, drop}
 use lib.Seq.{take-take, drop-drop}
 use Rattle.meaning.specs.Bytes.{Text, bytes, star, _and_, _or_, every, any, same, begins, ifGiven, hexDigit, objectId}
+use Rattle.meaning.specs.Limits.{idDigits, hashDigits}
 use Rattle.meaning.specs.Spec.{accepted, Mode, Spec, isNegative, modeOf, unsigned, sidesOf, left, starred, hashLike, notHashLike, readSpec}
 use Rattle.meaning.specs.Match.{full, object, partial, formOf, plainNeedle, formNeedle, needleOf, objectIn, objectBy, objectSource}
 use Rattle.promises.proofs.Laws.{and-left, and-right, any-in, every-in}
@@ -83,7 +84,7 @@ hex-no-ref (x ∷ t) h = go (eqb 114 x) refl
 -- an object id has digits only
 id-hex : (t : Text) → objectId t ≡ true → every hexDigit t ≡ true
 unfolding objectId
-id-hex t e = and-right (eqb (length t) 40) (every hexDigit t) e
+id-hex t e = and-right (eqb (length t) idDigits) (every hexDigit t) e
 
 -- a source that is an object id, unless it is a negative's, is looked for as one
 object-text : (negative : Bool) (t : Text) → (negative ≡ true → objectId t ≡ false) → objectIn (needleOf negative t) ≡ objectText t
@@ -114,7 +115,7 @@ not-id t h = go (objectId t) refl
     go : (b : Bool) → objectId t ≡ b → b ≡ false
     go false e = refl
     go true e =
-        let k : leb 40 (length t) ≡ true = le-leb 40 (length t) (omega (arith, object-length t e)) in
+        let k : leb hashDigits (length t) ≡ true = le-leb hashDigits (length t) (omega (arith, object-length t e)) in
         absurd (false≢true (rw (k, id-hex t e) at h))
 
 -- the object id of a spec whose source is a text

@@ -47,6 +47,7 @@ use denote.Triple.Table.{entered, cited}
 use denote.Triple.Walked.{says, needs, Stays, stay-none, walkOf, goes-none, Walks, ends-at, walked, walk-meets}
 use denote.Triple.Clauses.{ensured, lasts}
 use denote.Exit.{yes}
+use Rattle.meaning.specs.Limits.{specCount}
 use Rattle.spec_list.specs.Table.{specAt}
 use Rattle.spec_list.specs.declared.record.SpecRecord.{SpecRecord}
 use Rattle.spec_list.proofs.record.SpecRecord as T
@@ -66,7 +67,7 @@ abbrev R : RattleType
 R = T.the-row
 
 abbrev B : RattleType
-B = Array R 256
+B = Array R specCount
 
 abbrev stayed : Stays (self.ended .signature .params) (self.ended .kept)
 stayed = (stay-none (λ _. B) yes, (stay-none (λ _. usize) yes, (stay-none (λ _. usize) yes, tt)))
@@ -127,7 +128,7 @@ module _ {M : Type 1} (𝓤 : URA M) (H : Heap 𝓤) (A : Atoms 𝓤) (W : Given
       nothing ! $ owned ! usize (Is usize) (uint-makes 𝓤 H A W w64) i (vint w64 i ∷ []) (refl, gi) $ fjoin ! $ owned ! usize (Is usize) (uint-makes 𝓤 H A W w64) n (vint w64 n ∷ []) (refl, gn) $ fjoin ! $ move ! (2 ∷ 0 ∷ []) $ fjoin ! $ nothing ! $ done !
 
   module _ (C : Calls 𝓤 H) (Λ : Loops 𝓤 H) (fm : FmC 𝓤 H (W .laws) C) (known : Triple 𝓤 (C #spec-list·table·spec-at) (Callee 𝓤 H A mem run)) where
-    walk : Holds (hasTy (lone (B .mir)) v) × WT v → length xs ≡ 256 → n < 2 ^ 64 → i < 2 ^ 64 → n ≤ 256 → i < n → ent 𝓤 (onEntry 𝓤 H A self.signature tt tt args vs) (WpFn 𝓤 H C Λ code.function (v ∷ vint w64 n ∷ vint w64 i ∷ []) Post)
+    walk : Holds (hasTy (lone (B .mir)) v) × WT v → length xs ≡ specCount → n < 2 ^ 64 → i < 2 ^ 64 → n ≤ specCount → i < n → ent 𝓤 (onEntry 𝓤 H A self.signature tt tt args vs) (WpFn 𝓤 H C Λ code.function (v ∷ vint w64 n ∷ vint w64 i ∷ []) Post)
     unfolding partOf
     walk wt e gn gi few h =
         let fits-in : n ≤ length xs = omega arith in
@@ -143,10 +144,10 @@ module _ {M : Type 1} (𝓤 : URA M) (H : Heap 𝓤) (A : Atoms 𝓤) (W : Given
         assigns ! (agg ! (and-then ! (load ! (from ! (stop !)) (look ! 2 refl)) (and-then ! (load ! (from ! (stop !)) (look ! 8 refl)) (no-more !)))) (from ! (stop !)) (init ! 0 refl (tt, (tt, (record { fits = gn }, tt)))) $
         rewrite ! 0 (λ (m : ℕ). ‵ (fat fullShare (sliceTy (tyRef erased imm (pointee (R .written)))) l₆ 0 (sliceVal (l₄, 0) m))) (sym e₂) refl $
         -- what the table owns is had twice; with one copy the slot's value is an array in memory, which is taken apart into its elements, the first n and the others
-        move ! (15 ∷ []) $ fsplit ! $ use1 W (‵ Own ⊛ ‵ Own) (array-copy 𝓤 H A W R (LL.copy T.the-type T′.the-copy 𝓤 H A W) 256 .twice xs (v ∷ [])) $ split ! $
+        move ! (15 ∷ []) $ fsplit ! $ use1 W (‵ Own ⊛ ‵ Own) (array-copy 𝓤 H A W R (LL.copy T.the-type T′.the-copy 𝓤 H A W) specCount .twice xs (v ∷ [])) $ split ! $
         move ! (7 ∷ 0 ∷ []) $ use1 W (‵ (cellAt fullShare (B .mir) (v ∷ []) l₄ 0)) (W .laws .at-raw fullShare (lone (B .mir)) l₄ 0 v) $
         fjoin ! $ fpack ! (List Val) (λ us. fsep (cellAt fullShare (B .mir) us l₄ 0) (B .own xs us)) (v ∷ []) $
-        use1 W (‵ (arr-parts (shares R) 256 .part fullShare xs l₄ 0)) (array-apart 𝓤 H A W R fullShare tt 256 xs l₄ 0) $ fsplit ! $ feqL ! (λ _.
+        use1 W (‵ (arr-parts (shares R) specCount .part fullShare xs l₄ 0)) (array-apart 𝓤 H A W R fullShare tt specCount xs l₄ 0) $ fsplit ! $ feqL ! (λ _.
         use1 W (‵ (row R fullShare ys l₄ 0) ⊛ ‵ (row R fullShare (rest-of n xs) l₄ (past R n 0))) (cut 𝓤 H A W R fullShare n xs l₄ 0) $ split ! $
         feqI ! ℕ (length ys) (length ys) refl $ fjoin ! $
         -- a lifetime is made, and the first n elements are lent for it
@@ -163,10 +164,10 @@ module _ {M : Type 1} (𝓤 : URA M) (H : Heap 𝓤) (A : Atoms 𝓤) (W : Given
         land ! (from ! (stop !)) (init ! 17 refl (LL.lawful T.the-type T′.the-laws 𝓤 H A W .typed r _ is .0)) $
         -- the lifetime is ended, and the slot is whole again
         move ! (1 ∷ []) $ split ! $ lft-end ! tt $ move ! (0 ∷ 3 ∷ []) $ lent-back ! tt $ fsplit ! $ feqL ! (λ _.
-        move ! (0 ∷ 3 ∷ []) $ use2 W (‵ (row R fullShare xs l₄ 0)) (mend 𝓤 H A W R fullShare n xs l₄ 0) $ feqI ! ℕ (length xs) 256 e $ fjoin ! $
-        use1 W (‵ (partAt B fullShare xs l₄ 0)) (array-whole 𝓤 H A W R fullShare 256 xs l₄ 0) $
+        move ! (0 ∷ 3 ∷ []) $ use2 W (‵ (row R fullShare xs l₄ 0)) (mend 𝓤 H A W R fullShare n xs l₄ 0) $ feqI ! ℕ (length xs) specCount e $ fjoin ! $
+        use1 W (‵ (partAt B fullShare xs l₄ 0)) (array-whole 𝓤 H A W R fullShare specCount xs l₄ 0) $
         fpick ! (λ us. fsplit ! $ move ! (1 ∷ []) $ peeks ! B (Is B) (shows 𝓤 H A B) xs us (λ q. drop ! $
-        rewrite ! 0 (λ (ws : List Val). ‵ (cellAt fullShare (B .mir) ws l₄ 0)) (array-tells R (LL.vals T.the-type T′.the-laws) (LL.tells T.the-type T′.the-laws) 256 xs us q) refl $
+        rewrite ! 0 (λ (ws : List Val). ‵ (cellAt fullShare (B .mir) ws l₄ 0)) (array-tells R (LL.vals T.the-type T′.the-laws) (LL.tells T.the-type T′.the-laws) specCount xs us q) refl $
         use1 W (‵ (fat fullShare (lone (B .mir)) l₄ 0 _)) (W .laws .raw-at fullShare (lone (B .mir)) l₄ 0 _) $
         -- [_4; true; the result; what the table owns; the rest; _6; …; _5; …; (_4's right); _3; …; _2; …; _1; …; _0; …; true]
         returns ! (look ! 16 refl) $ forget ! 0 refl $ forget ! 5 refl $ forget ! 7 refl $ forget ! 10 refl $ forget ! 12 refl $ forget ! 14 refl $ forget ! 16 refl $
@@ -176,9 +177,9 @@ module _ {M : Type 1} (𝓤 : URA M) (H : Heap 𝓤) (A : Atoms 𝓤) (W : Given
 module _ {M : Type 1} (𝓤 : URA M) (H : Heap 𝓤) (A : Atoms 𝓤) (W : Given 𝓤 H A) (mem : Memory → SProp 𝓤) (run : Routine → Fun 𝓤) where
   self-walks : (C : Calls 𝓤 H) (Λ : Loops 𝓤 H) → FmC 𝓤 H (W .laws) C → Triple 𝓤 (C #spec-list·table·spec-at) (Callee 𝓤 H A mem run)
       → Walks 𝓤 H A self.ended stayed (WpFn 𝓤 H C Λ code.function) (self.clauses 𝓤 H A mem run)
-  self-walks C Λ fm known = walked 𝓤 H A self.ended stayed (self.clauses 𝓤 H A mem run) (WpFn 𝓤 H C Λ code.function) (λ κs. (array-vals (LL.vals T.the-type T′.the-laws), (uint-vals w64, (uint-vals w64, tt)))) (λ κs. (array-tells R (LL.vals T.the-type T′.the-laws) (LL.tells T.the-type T′.the-laws) 256, (uint-tells w64, (uint-tells w64, tt))))
+  self-walks C Λ fm known = walked 𝓤 H A self.ended stayed (self.clauses 𝓤 H A mem run) (WpFn 𝓤 H C Λ code.function) (λ κs. (array-vals (LL.vals T.the-type T′.the-laws), (uint-vals w64, (uint-vals w64, tt)))) (λ κs. (array-tells R (LL.vals T.the-type T′.the-laws) (LL.tells T.the-type T′.the-laws) specCount, (uint-tells w64, (uint-tells w64, tt))))
       (λ κs qs bounds a g are. needs 𝓤 _ _
-      (λ h. walk 𝓤 H A W mem run (a .0) _ (a .1 .0) (a .1 .1 .0) C Λ fm known (array-typed R (LL.lawful T.the-type T′.the-laws 𝓤 H A W .typed) 256 (a .0) _ (are .0) .0) (are .0 .1 .0 .1) (are .1 .0 .1) (are .1 .1 .0 .1) (omega (arith, h .0)) (omega (arith, h .1))))
+      (λ h. walk 𝓤 H A W mem run (a .0) _ (a .1 .0) (a .1 .1 .0) C Λ fm known (array-typed R (LL.lawful T.the-type T′.the-laws 𝓤 H A W .typed) specCount (a .0) _ (are .0) .0) (are .0 .1 .0 .1) (are .1 .0 .1) (are .1 .1 .0 .1) (omega (arith, h .0)) (omega (arith, h .1))))
 
 self-meets : {M : Type 1} (𝓤 : URA M) (H : Heap 𝓤) (A : Atoms 𝓤) (W : Given 𝓤 H A) (mem : Memory → SProp 𝓤) (run : Routine → Fun 𝓤) (𝓣 : Tables 𝓤 H)
     → Triple 𝓤 (𝓣 .C #spec-list·table·spec-at) (Callee 𝓤 H A mem run)
