@@ -55,18 +55,18 @@ module _ (s : Text) (at n : ℕ) (within : at ≤ length s) where
 -- the whole input
 module _ (s : Text) where
   -- above its limit
-  twelve : 65536 < length s → deliveries s ≡ output (refused 12 none)
+  twelve : programBytes < length s → deliveries s ≡ output (refused 12 none)
   unfolding deliveries
-  twelve h = rw (lt-leb (length s) 65536 h)
+  twelve h = rw (lt-leb (length s) programBytes h)
 
-  pub input-long : 65536 < length s → (d o : Text) (r : ℕ) → o ≡ splice d 0 (output (refused 12 none)) → r ≡ length (output (refused 12 none)) → Prints (deliveries s) d o r
+  pub input-long : programBytes < length s → (d o : Text) (r : ℕ) → o ≡ splice d 0 (output (refused 12 none)) → r ≡ length (output (refused 12 none)) → Prints (deliveries s) d o r
   input-long h = refusal (deliveries s) 12 (twelve h)
 
   -- within it
-  module _ (h : length s ≤ 65536) (a : Number) (e : a ≡ numberAt s 0) where
+  module _ (h : length s ≤ programBytes) (a : Number) (e : a ≡ numberAt s 0) where
     thirteen : a ≡ Malformed → deliveries s ≡ output (refused 13 none)
     unfolding deliveries readText
-    thirteen f = rw (le-leb (length s) 65536 h, number-none s 0 (sym e ∙ f))
+    thirteen f = rw (le-leb (length s) programBytes h, number-none s 0 (sym e ∙ f))
 
     pub number-malformed : a ≡ Malformed → (d o : Text) (r : ℕ) → o ≡ splice d 0 (output (refused 13 none)) → r ≡ length (output (refused 13 none)) → Prints (deliveries s) d o r
     number-malformed f = refusal (deliveries s) 13 (thirteen f)
@@ -77,44 +77,44 @@ module _ (s : Text) where
 
       after : deliveries s ≡ output (parted (readBytes n (drop next s)))
       unfolding deliveries readText
-      after = rw (le-leb (length s) 65536 h, number-stands s 0 n next (sym e ∙ f) .reads)
+      after = rw (le-leb (length s) programBytes h, number-stands s 0 n next (sym e ∙ f) .reads)
 
       pub number-parts : (d o : Text) (r : ℕ) → Prints (output (parted (readBytes n (drop next s)))) d o r → Prints (deliveries s) d o r
       number-parts = prints-as (deliveries s) (output (parted (readBytes n (drop next s)))) after
 
 -- no more is printed than the limit
-refusal-short : (n : ℕ) (r : Option ℕ) → length (output (refused n r)) ≤ 65536
+refusal-short : (n : ℕ) (r : Option ℕ) → length (output (refused n r)) ≤ programBytes
 refusal-short n r = omega (arith, decimal-few n, length-append (bytes "refused ") (decimal n ++ (10 ∷ [])), length-append (decimal n) (10 ∷ []))
 
-limit-short : (t : Text) → length (output (withinLimit t)) ≤ 65536
-limit-short t = go (leb (length t) 65536) refl
+limit-short : (t : Text) → length (output (withinLimit t)) ≤ programBytes
+limit-short t = go (leb (length t) programBytes) refl
   where
-    go : (b : Bool) → leb (length t) 65536 ≡ b → length (output (cond b (accepted t) (refused 17 none))) ≤ 65536
-    go true e = leb-true (length t) 65536 e
+    go : (b : Bool) → leb (length t) programBytes ≡ b → length (output (cond b (accepted t) (refused 17 none))) ≤ programBytes
+    go true e = leb-true (length t) programBytes e
     go false e = refusal-short 17 none
 
-printed-short : (specs items : Text) → length (output (printed specs items)) ≤ 65536
+printed-short : (specs items : Text) → length (output (printed specs items)) ≤ programBytes
 unfolding printed
 printed-short specs items = go (readSpecs 0 specs) (readItems items)
   where
-    go : (a : Answer (List Spec)) (b : Answer (List Text)) → length (output (a andThen λ group. b andThen λ names. withinLimit (header ++ each (forwardRows group names) rowLine))) ≤ 65536
+    go : (a : Answer (List Spec)) (b : Answer (List Text)) → length (output (a andThen λ group. b andThen λ names. withinLimit (header ++ each (forwardRows group names) rowLine))) ≤ programBytes
     go (refused n r) b = refusal-short n r
     go (accepted group) (refused n r) = refusal-short n r
     go (accepted group) (accepted names) = limit-short (header ++ each (forwardRows group names) rowLine)
 
 -- what two lists print
-pub printed-within : (specs items d o : Text) (r : ℕ) → Prints (output (printed specs items)) d o r → r ≤ 65536
+pub printed-within : (specs items d o : Text) (r : ℕ) → Prints (output (printed specs items)) d o r → r ≤ programBytes
 printed-within specs items d o r p = omega (arith, printed-short specs items, p .size-is)
 
 -- it is as long as the part of its buffer
-pub printed-part : (specs items d o : Text) (r : ℕ) → Prints (output (printed specs items)) d o r → length o ≡ 65536 → length (take r o) ≡ r
+pub printed-part : (specs items d o : Text) (r : ℕ) → Prints (output (printed specs items)) d o r → length o ≡ programBytes → length (take r o) ≡ r
 printed-part specs items d o r p e = length-take-le r o (omega (arith, printed-within specs items d o r p))
 
-deliveries-short : (s : Text) → length (deliveries s) ≤ 65536
+deliveries-short : (s : Text) → length (deliveries s) ≤ programBytes
 unfolding deliveries
-deliveries-short s = go (leb (length s) 65536) (readText s)
+deliveries-short s = go (leb (length s) programBytes) (readText s)
   where
-    go : (b : Bool) (w : Step Text) → length (output (cond b (parted w) (refused 12 none))) ≤ 65536
+    go : (b : Bool) (w : Step Text) → length (output (cond b (parted w) (refused 12 none))) ≤ programBytes
     go false w = refusal-short 12 none
     go true (took specs items) = printed-short specs items
     go true (no n) = refusal-short n none

@@ -2,42 +2,44 @@
 use mathlib.Core.Path.{_≡_}
 use mathlib.Core.List.{_++_}
 use mathlib.Core.Option.{none}
-use Prim.Native.Nat.{ℕ, _+_, _<_, _≤_}
+use Prim.Native.Nat.{ℕ, _+_, _*_, _<_, _≤_}
 use native.Mathlib.Omega.{arith}
 use borrow.Author.Tests.{le-leb, lt-leb}
 use mir.Val.{Fits}
 use mir.Syntax.{w64}
 use lib.ListN.{length, length-append}
 use Rattle.meaning.specs.Bytes.{Text}
+use Rattle.meaning.specs.Limits.{programBytes}
 use Rattle.meaning.specs.Spec.{refused}
 use Rattle.meaning.specs.Deliveries.{header, output}
 use Rattle.buffer.specs.Splice.{splice}
 use Rattle.buffer.proofs.Pairs.{pair-put, pair-end}
+use Rattle.print.specs.Lines.{lineBytes}
 use Rattle.deliver.specs.Printed.{rowsIn, linesOf, printedRows}
 
 -- the sum fits a machine's number
-pub sum-fits : (h : ℕ) → h ≡ length header → (n : ℕ) → n ≤ 26214400000 → Fits w64 (h + n)
+pub sum-fits : (h : ℕ) → h ≡ length header → (n : ℕ) → n ≤ lineBytes * programBytes → Fits w64 (h + n)
 unfolding header
 sum-fits h eh n g = omega arith
 
 -- the sizes of the header and of the lines
 module _ (list : Text) (h : ℕ) (eh : h ≡ length header) (n : ℕ) (en : n ≡ length (linesOf (rowsIn list))) where
   -- above the limit 17 is printed
-  too-long : 65536 < h + n → printedRows list ≡ output (refused 17 none)
+  too-long : programBytes < h + n → printedRows list ≡ output (refused 17 none)
   unfolding printedRows
-  too-long g = rw (lt-leb (length (header ++ linesOf (rowsIn list))) 65536 (omega (arith, length-append header (linesOf (rowsIn list)))))
+  too-long g = rw (lt-leb (length (header ++ linesOf (rowsIn list))) programBytes (omega (arith, length-append header (linesOf (rowsIn list)))))
 
-  pub limit-put : 65536 < h + n → (d o : Text) → o ≡ splice d 0 (output (refused 17 none)) → o ≡ splice d 0 (printedRows list)
+  pub limit-put : programBytes < h + n → (d o : Text) → o ≡ splice d 0 (output (refused 17 none)) → o ≡ splice d 0 (printedRows list)
   limit-put g d o e = rw (too-long g) e
 
-  pub limit-ends : 65536 < h + n → (r : ℕ) → r ≡ length (output (refused 17 none)) → r ≡ length (printedRows list)
+  pub limit-ends : programBytes < h + n → (r : ℕ) → r ≡ length (output (refused 17 none)) → r ≡ length (printedRows list)
   limit-ends g r e = rw (too-long g) e
 
   -- at or below it all is
-  module _ (g : h + n ≤ 65536) (d : Text) (w : 65536 ≤ length d) where
+  module _ (g : h + n ≤ programBytes) (d : Text) (w : programBytes ≤ length d) where
     all-printed : printedRows list ≡ header ++ linesOf (rowsIn list)
     unfolding printedRows
-    all-printed = rw (le-leb (length (header ++ linesOf (rowsIn list))) 65536 (omega (arith, length-append header (linesOf (rowsIn list)))))
+    all-printed = rw (le-leb (length (header ++ linesOf (rowsIn list))) programBytes (omega (arith, length-append header (linesOf (rowsIn list)))))
 
     both : 0 + length (header ++ linesOf (rowsIn list)) ≤ length d
     both = omega (arith, length-append header (linesOf (rowsIn list)))

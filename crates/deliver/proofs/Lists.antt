@@ -7,7 +7,7 @@ use native.Mathlib.Omega.{arith}
 use borrow.Author.Tests.{lt-leb}
 use lib.ListN.{length, take, length-append}
 use Rattle.meaning.specs.Bytes.{Text}
-use Rattle.meaning.specs.Limits.{specCount}
+use Rattle.meaning.specs.Limits.{specCount, programBytes}
 use Rattle.meaning.specs.Spec.{Answer, accepted, refused, Spec}
 use Rattle.meaning.specs.Lists.{readSpecs, readItems}
 use Rattle.meaning.specs.Rows.{Row, rowListOf, readRows}
@@ -34,13 +34,13 @@ module _ (specs items : Text) (group : List Spec) (names : List Text) (es : read
   lists-print = rw (es, ei)
 
   -- a row list that outgrows its buffer is too long in print
-  lists-long : 65536 < length (rowListOf (forwardRows group names)) → output (printed specs items) ≡ output (refused 17 none)
+  lists-long : programBytes < length (rowListOf (forwardRows group names)) → output (printed specs items) ≡ output (refused 17 none)
   lists-long h =
       let g = rows-long (forwardRows group names) (λ r m. forward-sound group names r m .kind-fits) in
-      lists-print ∙ rw (lt-leb (length (header ++ linesOf (forwardRows group names))) 65536 (omega (arith, length-append header (linesOf (forwardRows group names)))))
+      lists-print ∙ rw (lt-leb (length (header ++ linesOf (forwardRows group names))) programBytes (omega (arith, length-append header (linesOf (forwardRows group names)))))
 
   -- any other is read back
-  module _ (h : length (rowListOf (forwardRows group names)) ≤ 65536) where
+  module _ (h : length (rowListOf (forwardRows group names)) ≤ programBytes) where
     back : readRows specCount (rowListOf (forwardRows group names)) ≡ accepted (forwardRows group names)
     back = forward-back specs items group names es ei (omega arith) specCount (group-count 0 specs group es)
 
@@ -64,7 +64,7 @@ module _ (specs items rows : Text) (size : ℕ) where
     pub listed : Listed (take size rows)
     pub prints : output (printed specs items) ≡ printedRows (take size rows)
 
-module _ (specs items entry exit : Text) (n q size : ℕ) (m : MeetsOne (matchLhs 0 specs items) entry exit n q size) (long : length entry ≡ 65536) where
+module _ (specs items entry exit : Text) (n q size : ℕ) (m : MeetsOne (matchLhs 0 specs items) entry exit n q size) (long : length entry ≡ programBytes) where
   -- a spec list that is refused
   specs-no : (k : ℕ) (r : Option ℕ) → readSpecs 0 specs ≡ refused k r → matchLhs 0 specs items ≡ refused k r
   unfolding matchLhs
@@ -120,7 +120,7 @@ module _ (specs items entry exit : Text) (n q size : ℕ) (m : MeetsOne (matchLh
           let f = told-fits (matchLhs 0 specs items) entry exit n q size m t a z in
           let s = told-length (matchLhs 0 specs items) entry exit n q size m t a z in
           let x = told-text (matchLhs 0 specs items) entry exit n q size m t a z in
-          let h : length (rowListOf (forwardRows group l)) ≤ 65536 = omega arith in
+          let h : length (rowListOf (forwardRows group l)) ≤ programBytes = omega arith in
           record { within = told-within (matchLhs 0 specs items) entry exit n q size m t a z; sized = s ∙ sym (ap length x); listed = rw x (lists-listed specs items group l es e h); prints = rw x (lists-rows specs items group l es e h) }
 
       go : (a : Answer (List Spec)) → readSpecs 0 specs ≡ a → Ready specs items exit size

@@ -3,11 +3,12 @@ use mathlib.Core.Path.{_≡_}
 use mathlib.Core.Bool.{Bool, true, false, not, cond}
 use mathlib.Core.List.{List, [], _∷_, _++_}
 use mathlib.Core.Option.{Option, none, some}
-use Prim.Native.Nat.{ℕ, zero, suc, _+_, _/_, _%_, _≤_}
+use Prim.Native.Nat.{ℕ, zero, suc, _+_, _-_, _/_, _%_, _≤_}
 use native.Mathlib.Omega.{arith}
 use lib.Dec.{eqb, leb, ltb}
 use lib.ListN.{length, length-append}
 use Rattle.meaning.specs.Bytes.{Text, _and_, each, In, here, there}
+use Rattle.meaning.specs.Limits.{decimalDigits}
 use Rattle.meaning.specs.Number.{numberBytes, textBytes}
 use Rattle.meaning.specs.Rows.{Row, destinationBytes, rowBytes, rowListOf}
 use Rattle.meaning.specs.Deliveries.{digits, decimal, capitalDigit, shownByte, shown, shownOption, shownItem, shownKind, rowLine}
@@ -19,9 +20,9 @@ decimal-long : (n : ℕ) → 1 ≤ length (decimal n)
 unfolding decimal
 decimal-long n = go (ltb n 10)
   where
-    go : (b : Bool) → 1 ≤ length (cond {A = Text} b ((48 + n) ∷ []) (digits 3 (n / 10) ++ ((48 + n % 10) ∷ [])))
+    go : (b : Bool) → 1 ≤ length (cond {A = Text} b ((48 + n) ∷ []) (digits (decimalDigits - 1) (n / 10) ++ ((48 + n % 10) ∷ [])))
     go true = omega arith
-    go false = omega (arith, length-append (digits 3 (n / 10)) ((48 + n % 10) ∷ []))
+    go false = omega (arith, length-append (digits (decimalDigits - 1) (n / 10)) ((48 + n % 10) ∷ []))
 
 item-long : (n : ℕ) → 1 ≤ length (shownItem n)
 item-long zero = omega arith

@@ -7,12 +7,13 @@ use mir.Val.{Fits}
 use mir.Syntax.{w64}
 use lib.ListN.{length, length-append}
 use Rattle.meaning.specs.Bytes.{Text}
-use Rattle.meaning.specs.Limits.{specCount}
+use Rattle.meaning.specs.Limits.{specCount, programBytes}
 use Rattle.meaning.specs.Rows as meaning
 use Rattle.meaning.specs.Deliveries.{rowLine}
 use Rattle.buffer.specs.Splice.{splice}
 use Rattle.buffer.proofs.Writing.{Writing, writing-starts, writing-room, writing-more, written-place, written-whole}
 use Rattle.list.specs.declared.cursor.Cursor.{Cursor}
+use Rattle.print.specs.Lines.{lineBytes}
 use Rattle.row_list.specs.declared.RowPlace.{RowPlace}
 use Rattle.row_list.specs.declared.RowStep.{RowStep}
 use Rattle.row_list.specs.declared.RowStep.the-variants.{Row, End, Refused}
@@ -44,7 +45,7 @@ pub record Measured (list : Text) (at size : ℕ) : Type 0 where
   pub number : ℕ
   pub rest : List meaning.Row
   pub left : RowsLeft specCount list at number rest
-  pub small : size ≤ 400000 * at
+  pub small : size ≤ lineBytes * at
   pub whole : size + length (linesOf rest) ≡ length (linesOf (rowsIn list))
 
 -- nothing is measured at the start
@@ -53,15 +54,15 @@ measured-starts list l at e = record { number = 0; rest = rowsIn list; left = al
 
 -- few enough that a machine's number holds the sum with one line more
 module _ (list : Text) (l : Listed list) (at size : ℕ) (m : Measured list at size) where
-  pub measured-small : size ≤ 26214400000
+  pub measured-small : size ≤ lineBytes * programBytes
   measured-small = omega (arith, m .small, m .left .within, l .short)
 
-  pub measured-fits : (n : ℕ) → n ≤ 400000 → Fits w64 (size + n)
+  pub measured-fits : (n : ℕ) → n ≤ lineBytes → Fits w64 (size + n)
   measured-fits n h = omega (arith, measured-small)
 
 module _ (list : Text) (at size : ℕ) (m : Measured list at size) (w : RowStep) (says : RowSays specCount list at w) where
   -- one line more
-  pub measured-more : (row : RowPlace) (next : Cursor) → w ≡ Row row next → (n : ℕ) → n ≡ length (rowLine (rowMeant list row)) → n ≤ 400000 → Measured list (next .at) (size + n)
+  pub measured-more : (row : RowPlace) (next : Cursor) → w ≡ Row row next → (n : ℕ) → n ≡ length (rowLine (rowMeant list row)) → n ≤ lineBytes → Measured list (next .at) (size + n)
   measured-more row next e n f h =
       let t : RowTaken specCount list at row (next .at) = rw e at says in
       let x = rows-next specCount list at (m .number) (m .rest) (m .left) w says row next e in

@@ -1,10 +1,11 @@
 // The rows of a row list in print.
 ghost use mathlib.Core.Path.{_≡_};
-ghost use Prim.Native.Nat.{_+_, _≤_};
+ghost use Prim.Native.Nat.{_+_, _*_, _≤_};
 ghost use lib.ListN.{length};
 ghost use Rattle.meaning.specs.Limits.{programBytes};
 ghost use Rattle.meaning.specs.Deliveries.{rowLine};
 ghost use Rattle.buffer.specs.Splice.{splice};
+ghost use Rattle.print.specs.Lines.{lineBytes};
 ghost use Rattle.row_list.specs.Rows.{rowMeant};
 ghost use Rattle.deliver.specs.Printed.{rowsIn, linesOf, printedRows, Prints, Listed, RowStands};
 use limits::PROGRAM_BYTES;
@@ -24,7 +25,7 @@ use row_list::next_row;
 // How many bytes the line of a row has.
 fn row_size(list: &[u8], row: RowPlace) -> usize
     requires { ⌜ RowStands (now list) row ⌝ }
-    ensures { λ r. ⌜ (r ≡ length (rowLine (rowMeant (now (list .entry)) row))) × (r ≤ 400000) ⌝ }
+    ensures { λ r. ⌜ (r ≡ length (rowLine (rowMeant (now (list .entry)) row))) × (r ≤ lineBytes) ⌝ }
 {
     let at = row.src_at;
     let end = at + row.src_len;
@@ -66,7 +67,7 @@ fn put_row(out: &mut [u8], i: usize, list: &[u8], row: RowPlace) -> usize
 // How many bytes the lines of a row list have. No row of a list that was accepted is refused.
 fn rows_size(list: &[u8]) -> usize
     requires { ⌜ Listed (now list) ⌝ }
-    ensures { λ r. ⌜ (r ≡ length (linesOf (rowsIn (now (list .entry))))) × (r ≤ 26214400000) ⌝ }
+    ensures { λ r. ⌜ (r ≡ length (linesOf (rowsIn (now (list .entry))))) × (r ≤ lineBytes * programBytes) ⌝ }
 {
     let mut c = Cursor::new();
     let mut size = 0;

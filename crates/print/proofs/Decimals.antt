@@ -4,10 +4,11 @@ use mathlib.Core.Bool.{Bool, true, false, cond}
 use mathlib.Core.List.{[], _∷_, _++_}
 use Prim.Native.Nat.{ℕ, zero, suc, _+_, _-_, _/_, _%_, _<_, _≤_}
 use native.Mathlib.Omega.{arith}
-use borrow.Author.Tests.{lt-ltb, le-ltb, ltb-true, ltb-false}
+use borrow.Author.Tests.{lt-ltb, le-ltb}
 use lib.Dec.{ltb}
 use lib.ListN.{length, length-append}
 use Rattle.meaning.specs.Bytes.{Text}
+use Rattle.meaning.specs.Limits.{decimalDigits}
 use Rattle.meaning.specs.Deliveries.{digits, decimal}
 use Rattle.buffer.specs.Splice.{splice}
 use Rattle.buffer.proofs.Splices.{splice-none}
@@ -67,51 +68,25 @@ module _ (d : Text) (at k n : ℕ) (fits : at + length (digits k n) ≤ length d
       digits-end r e = rw pieces (pair-end d at (digits (k - 1) (n / 10)) ((48 + n % 10) ∷ []) both o i eo ei r e)
 
 -- how many digits there are
-length-more : (k n : ℕ) → 10 ≤ n → length (digits (suc k) n) ≡ length (digits k (n / 10)) + 1
-length-more k n h = rw (le-ltb n 10 h) (length-append (digits k (n / 10)) ((48 + n % 10) ∷ []))
+pub none-counted : (k n : ℕ) → k ≡ 0 → 0 ≡ length (digits k n)
+none-counted k n e = rw e refl
 
-length-one : (k n : ℕ) → n < 10 → length (digits (suc k) n) ≡ 1
-length-one k n h = rw (lt-ltb n 10 h)
+module _ (k n : ℕ) (some : k ≡ 0 → ⊥) where
+  pub one-counted : n < 10 → 1 ≡ length (digits k n)
+  one-counted h = rw (one-digit k n some h) refl
 
-length-last : (n : ℕ) → length (digits 1 n) ≡ 1
-length-last n = go (ltb n 10)
+  pub more-counted : 10 ≤ n → (r : ℕ) → r ≡ length (digits (k - 1) (n / 10)) → r + 1 ≡ length (digits k n)
+  more-counted h r e = rw (more-digits k n some h) (omega (arith, length-append (digits (k - 1) (n / 10)) ((48 + n % 10) ∷ [])))
+
+-- never more than are asked for
+digits-few : (k n : ℕ) → length (digits k n) ≤ k
+digits-few zero n = omega arith
+digits-few (suc k) n = go (digits-few k (n / 10)) (ltb n 10)
   where
-    go : (b : Bool) → length (cond {A = Text} b ((48 + n) ∷ []) ([] ++ ((48 + n % 10) ∷ []))) ≡ 1
-    go true = refl
-    go false = refl
+    go : length (digits k (n / 10)) ≤ k → (b : Bool) → length (cond {A = Text} b ((48 + n) ∷ []) (digits k (n / 10) ++ ((48 + n % 10) ∷ []))) ≤ suc k
+    go h true = omega arith
+    go h false = omega (arith, length-append (digits k (n / 10)) ((48 + n % 10) ∷ []))
 
-pub decimal-one : (n : ℕ) → n < 10 → 1 ≡ length (decimal n)
+pub decimal-few : (n : ℕ) → length (decimal n) ≤ decimalDigits
 unfolding decimal
-decimal-one n h = sym (length-one 3 n h)
-
-pub decimal-two : (n : ℕ) → 10 ≤ n → n < 100 → 2 ≡ length (decimal n)
-unfolding decimal
-decimal-two n h k =
-    let q : n / 10 < 10 = omega arith in
-    omega (arith, length-more 3 n h, length-one 2 (n / 10) q)
-
-pub decimal-three : (n : ℕ) → 100 ≤ n → n < 1000 → 3 ≡ length (decimal n)
-unfolding decimal
-decimal-three n h k =
-    let p : 10 ≤ n = omega arith in
-    let q : 10 ≤ n / 10 = omega arith in
-    let r : n / 10 / 10 < 10 = omega arith in
-    omega (arith, length-more 3 n p, length-more 2 (n / 10) q, length-one 1 (n / 10 / 10) r)
-
-pub decimal-four : (n : ℕ) → 1000 ≤ n → 4 ≡ length (decimal n)
-unfolding decimal
-decimal-four n h =
-    let p : 10 ≤ n = omega arith in
-    let q : 10 ≤ n / 10 = omega arith in
-    let r : 10 ≤ n / 10 / 10 = omega arith in
-    omega (arith, length-more 3 n p, length-more 2 (n / 10) q, length-more 1 (n / 10 / 10) r, length-last (n / 10 / 10 / 10))
-
--- never more than four
-pub decimal-few : (n : ℕ) → length (decimal n) ≤ 4
-decimal-few n = go (ltb n 10) (ltb n 100) (ltb n 1000) refl refl refl
-  where
-    go : (a b c : Bool) → ltb n 10 ≡ a → ltb n 100 ≡ b → ltb n 1000 ≡ c → length (decimal n) ≤ 4
-    go true b c e f g = omega (arith, decimal-one n (ltb-true n 10 e))
-    go false true c e f g = omega (arith, decimal-two n (ltb-false n 10 e) (ltb-true n 100 f))
-    go false false true e f g = omega (arith, decimal-three n (ltb-false n 100 f) (ltb-true n 1000 g))
-    go false false false e f g = omega (arith, decimal-four n (ltb-false n 1000 g))
+decimal-few n = digits-few decimalDigits n

@@ -1,10 +1,11 @@
 -- What the functions write: a field with the byte after it, and a row of plain numbers and texts.
-use Prim.Native.Nat.{ℕ, _/_, _%_}
+use Prim.Native.Nat.{ℕ, _+_, _*_, _/_, _%_}
 use mathlib.Core.Bool.{Bool, true, false, not}
 use mathlib.Core.List.{[], _∷_, _++_}
 use mathlib.Core.Option.{Option, none, some}
 use lib.Dec.{eqb, leb}
 use Rattle.meaning.specs.Bytes.{Text, _and_}
+use Rattle.meaning.specs.Limits.{programBytes, decimalDigits}
 use Rattle.meaning.specs.Rows.{Row}
 use Rattle.meaning.specs.Deliveries.{decimal, capitalDigit, shownItem, shownKind}
 
@@ -31,6 +32,18 @@ withFeed f = ended 10 f
 -- the fields that a line begins with
 unfoldable pub lineStart : ℕ → ℕ → ℕ → Text
 lineStart item spec kind = withTab (shownItem item) ++ (withTab (decimal spec) ++ withTab (shownKind kind))
+
+-- a text of the program's input takes at most so many bytes: `=`, and three for each byte
+abbrev pub shownBytes : ℕ
+shownBytes = 1 + 3 * programBytes
+
+-- the line of a row so many: two numbers, a kind, two texts, and a byte after each
+abbrev pub lineBytes : ℕ
+lineBytes = 2 * decimalDigits + 6 + 2 * shownBytes + 5
+
+-- and the line of a refusal so many: the word, a number and a line feed
+abbrev pub refusalBytes : ℕ
+refusalBytes = 8 + decimalDigits + 1
 
 -- a text that is there, or is absent
 abbrev pub optional : Bool → Text → Option Text

@@ -2,6 +2,7 @@
 ghost use mathlib.Core.Path.{_≡_};
 ghost use Prim.Native.Nat.{_+_, _≤_, _%_};
 ghost use lib.ListN.{length};
+ghost use Rattle.meaning.specs.Limits.{decimalDigits};
 ghost use Rattle.meaning.specs.Deliveries.{digits, decimal};
 ghost use Rattle.buffer.specs.Splice.{splice};
 use buffer::put_byte;
@@ -14,20 +15,24 @@ fn last_digit(n: usize) -> u8
     (48 + n % 10) as u8
 }
 
-// How many digits a number has.
-pub(crate) fn decimal_size(n: usize) -> usize
-    ensures { λ r. ⌜ (r ≡ length (decimal n)) × (r ≤ 4) ⌝ }
+// How many digits a number has, k of them at most.
+fn digits_size(k: usize, n: usize) -> usize
+    ensures { λ r. ⌜ (r ≡ length (digits k n)) × (r ≤ k) ⌝ }
 {
+    if k == 0 {
+        return 0;
+    }
     if n < 10 {
         return 1;
     }
-    if n < 100 {
-        return 2;
-    }
-    if n < 1000 {
-        return 3;
-    }
-    4
+    digits_size(k - 1, n / 10) + 1
+}
+
+// How many digits a number has.
+pub(crate) fn decimal_size(n: usize) -> usize
+    ensures { λ r. ⌜ (r ≡ length (decimal n)) × (r ≤ decimalDigits) ⌝ }
+{
+    digits_size(DECIMAL_DIGITS, n)
 }
 
 // Writes the digits of a number, k of them at most, and answers the place after them.

@@ -1,4 +1,4 @@
--- `print::decimal::put_decimal` meets its contract: four digits at most.
+-- `print::decimal::put_decimal` meets its contract: as many digits as a number may have.
 use Rattle.meaning.specs.Deliveries.{decimal}
 use borrow.Author.Needs.{needs}
 use Rattle.print.proofs.decimal.put_decimal.Statement.{statement}
