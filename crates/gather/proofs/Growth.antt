@@ -7,6 +7,7 @@ use mir.Val.{Fits}
 use mir.Syntax.{w64}
 use lib.ListN.{length, take, drop}
 use Rattle.meaning.specs.Bytes.{Text}
+use Rattle.meaning.specs.Limits.{specListBytes, itemListBytes}
 use Rattle.meaning.specs.Number.{textBytes, recordBytes}
 use Rattle.buffer.specs.Splice.{splice}
 use Rattle.buffer.proofs.Splices.{splice-none}
@@ -38,8 +39,8 @@ unfolding recordBytes
 one-bytes t = append-nil (textBytes t)
 
 -- a list stays
-stays : (count size : ℕ) (d : Text) → size ≤ 65535 → Grows [] count size d count size d
-stays count size d h = record {
+stays : (limit count size : ℕ) (d : Text) → size ≤ limit → Grows limit [] count size d count size d
+stays limit count size d h = record {
   count-is = omega arith;
   size-is = rw no-bytes (omega arith);
   small = h;
@@ -47,8 +48,8 @@ stays count size d h = record {
 }
 
 -- a list has one text more
-more : (t : Text) (count size : ℕ) (d e : Text) (end : ℕ) → size + length (textBytes t) ≤ 65535 → e ≡ splice d size (textBytes t) → end ≡ size + length (textBytes t) → Grows (t ∷ []) count size d (count + 1) end e
-more t count size d e end h p q = record {
+more : (limit : ℕ) (t : Text) (count size : ℕ) (d e : Text) (end : ℕ) → size + length (textBytes t) ≤ limit → e ≡ splice d size (textBytes t) → end ≡ size + length (textBytes t) → Grows limit (t ∷ []) count size d (count + 1) end e
+more limit t count size d e end h p q = record {
   count-is = refl;
   size-is = rw (one-bytes t) q;
   small = omega arith;
@@ -56,15 +57,15 @@ more t count size d e end h p q = record {
 }
 
 -- nothing is new
-stays-new : (n : ℕ) (l : List Text) → unlessRefused n l ≡ [] → (count size countAfter sizeAfter : ℕ) (d : Text) → countAfter ≡ count → sizeAfter ≡ size → size ≤ 65535 → Grows (unlessRefused n l) count size d countAfter sizeAfter d
-stays-new n l e count size countAfter sizeAfter d p q h = rw (e, p, q) (stays count size d h)
+stays-new : (limit n : ℕ) (l : List Text) → unlessRefused n l ≡ [] → (count size countAfter sizeAfter : ℕ) (d : Text) → countAfter ≡ count → sizeAfter ≡ size → size ≤ limit → Grows limit (unlessRefused n l) count size d countAfter sizeAfter d
+stays-new limit n l e count size countAfter sizeAfter d p q h = rw (e, p, q) (stays limit count size d h)
 
 -- a spec, for a reason that was found
-module _ (t : Text) (so : Lists) (d : Text) (n : ℕ) (en : n ≡ specReason (so .specs) (so .«spec_bytes») t) (room : Room (so .«spec_bytes») d) where
+module _ (t : Text) (so : Lists) (d : Text) (n : ℕ) (en : n ≡ specReason (so .specs) (so .«spec_bytes») t) (room : Room specListBytes (so .«spec_bytes») d) where
   pub spec-refused : (n ≡ 0 → ⊥) → (r : Lists) → r ≡ stopped so n → SpecAdds t so r d d
   spec-refused h r e = rw e (record {
     reason-is = en;
-    grows = stays-new n (t ∷ []) (refused-none n (t ∷ []) h) (so .specs) (so .«spec_bytes») (so .specs) (so .«spec_bytes») d refl refl (room .small);
+    grows = stays-new specListBytes n (t ∷ []) (refused-none n (t ∷ []) h) (so .specs) (so .«spec_bytes») (so .specs) (so .«spec_bytes») d refl refl (room .small);
     names-stay = refl;
     bytes-stay = refl;
   })
@@ -79,17 +80,17 @@ module _ (t : Text) (so : Lists) (d : Text) (n : ℕ) (en : n ≡ specReason (so
     pub spec-added : (e : Text) (end : ℕ) → e ≡ splice d (so .«spec_bytes») (textBytes t) → end ≡ so .«spec_bytes» + length (textBytes t) → SpecAdds t so (record { reason = 0; specs = so .specs + 1; «spec_bytes» = end; names = so .names; «name_bytes» = so .«name_bytes» }) d e
     spec-added e end p q = record {
       reason-is = sym z ∙ en;
-      grows = more t (so .specs) (so .«spec_bytes») d e end (spec-passes (so .specs) (so .«spec_bytes») t (sym en ∙ z) .fits) p q;
+      grows = more specListBytes t (so .specs) (so .«spec_bytes») d e end (spec-passes (so .specs) (so .«spec_bytes») t (sym en ∙ z) .fits) p q;
       names-stay = refl;
       bytes-stay = refl;
     }
 
 -- a name, for a reason that was found
-module _ (t : Text) (so : Lists) (d : Text) (n : ℕ) (en : n ≡ nameReason (so .names) (so .«name_bytes») t) (room : Room (so .«name_bytes») d) where
+module _ (t : Text) (so : Lists) (d : Text) (n : ℕ) (en : n ≡ nameReason (so .names) (so .«name_bytes») t) (room : Room itemListBytes (so .«name_bytes») d) where
   pub name-refused : (n ≡ 0 → ⊥) → (r : Lists) → r ≡ stopped so n → NameAdds t so r d d
   name-refused h r e = rw e (record {
     reason-is = en;
-    grows = stays-new n (t ∷ []) (refused-none n (t ∷ []) h) (so .names) (so .«name_bytes») (so .names) (so .«name_bytes») d refl refl (room .small);
+    grows = stays-new itemListBytes n (t ∷ []) (refused-none n (t ∷ []) h) (so .names) (so .«name_bytes») (so .names) (so .«name_bytes») d refl refl (room .small);
     specs-stay = refl;
     bytes-stay = refl;
   })
@@ -104,19 +105,19 @@ module _ (t : Text) (so : Lists) (d : Text) (n : ℕ) (en : n ≡ nameReason (so
     pub name-added : (e : Text) (end : ℕ) → e ≡ splice d (so .«name_bytes») (textBytes t) → end ≡ so .«name_bytes» + length (textBytes t) → NameAdds t so (record { reason = 0; specs = so .specs; «spec_bytes» = so .«spec_bytes»; names = so .names + 1; «name_bytes» = end }) d e
     name-added e end p q = record {
       reason-is = sym z ∙ en;
-      grows = more t (so .names) (so .«name_bytes») d e end (name-passes (so .names) (so .«name_bytes») t (sym en ∙ z) .fits) p q;
+      grows = more itemListBytes t (so .names) (so .«name_bytes») d e end (name-passes (so .names) (so .«name_bytes») t (sym en ∙ z) .fits) p q;
       specs-stay = refl;
       bytes-stay = refl;
     }
 
 -- what a line holds, from the answer about it
-module _ (line : Text) (a : Line) (tells : Tells line a) (so : Lists) (d₁ d₂ : Text) (room₁ : Room (so .«spec_bytes») d₁) (room₂ : Room (so .«name_bytes») d₂) where
+module _ (line : Text) (a : Line) (tells : Tells line a) (so : Lists) (d₁ d₂ : Text) (room₁ : Room specListBytes (so .«spec_bytes») d₁) (room₂ : Room itemListBytes (so .«name_bytes») d₂) where
   -- a line that adds nothing, for a reason or for none
   stays-both : (h : Held) (n : ℕ) → specsIn h ≡ [] → namesIn h ≡ [] → n ≡ reasonOf (so .specs) (so .«spec_bytes») (so .names) (so .«name_bytes») h → LineAdds h so (stopped so n) d₁ d₂ d₁ d₂
   stays-both h n p q e = record {
     reason-is = e;
-    specs-grow = rw p (stays-new n [] (none-new n) (so .specs) (so .«spec_bytes») (so .specs) (so .«spec_bytes») d₁ refl refl (room₁ .small));
-    names-grow = rw q (stays-new n [] (none-new n) (so .names) (so .«name_bytes») (so .names) (so .«name_bytes») d₂ refl refl (room₂ .small));
+    specs-grow = rw p (stays-new specListBytes n [] (none-new n) (so .specs) (so .«spec_bytes») (so .specs) (so .«spec_bytes») d₁ refl refl (room₁ .small));
+    names-grow = rw q (stays-new itemListBytes n [] (none-new n) (so .names) (so .«name_bytes») (so .names) (so .«name_bytes») d₂ refl refl (room₂ .small));
   }
 
   module _ (r : Lists) where
@@ -137,7 +138,7 @@ module _ (line : Text) (a : Line) (tells : Tells line a) (so : Lists) (d₁ d₂
           rw (← m) (record {
             reason-is = x .reason-is;
             specs-grow = x .grows;
-            names-grow = stays-new (r .reason) [] (none-new (r .reason)) (so .names) (so .«name_bytes») (r .names) (r .«name_bytes») d₂ (x .names-stay) (x .bytes-stay) (room₂ .small);
+            names-grow = stays-new itemListBytes (r .reason) [] (none-new (r .reason)) (so .names) (so .«name_bytes») (r .names) (r .«name_bytes») d₂ (x .names-stay) (x .bytes-stay) (room₂ .small);
           })
 
       pub line-name : a ≡ Name at → (e : Text) → NameAdds (take (length line - at) (drop at line)) so r d₂ e → LineAdds (heldIn line) so r d₁ d₂ d₁ e
@@ -146,7 +147,7 @@ module _ (line : Text) (a : Line) (tells : Tells line a) (so : Lists) (d₁ d₂
           let x : NameAdds (drop at line) so r d₂ e = rw (rest-part line at) at adds in
           rw (← m) (record {
             reason-is = x .reason-is;
-            specs-grow = stays-new (r .reason) [] (none-new (r .reason)) (so .specs) (so .«spec_bytes») (r .specs) (r .«spec_bytes») d₁ (x .specs-stay) (x .bytes-stay) (room₁ .small);
+            specs-grow = stays-new specListBytes (r .reason) [] (none-new (r .reason)) (so .specs) (so .«spec_bytes») (r .specs) (r .«spec_bytes») d₁ (x .specs-stay) (x .bytes-stay) (room₁ .small);
             names-grow = x .grows;
           })
 

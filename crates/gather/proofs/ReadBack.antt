@@ -9,38 +9,39 @@ use native.Mathlib.Omega.{arith}
 use lib.Dec.{leb}
 use lib.ListN.{length, length-append}
 use Rattle.meaning.specs.Bytes.{Text, bytes, begins, In}
+use Rattle.meaning.specs.Limits.{specBytes, nameBytes, specListBytes, itemListBytes, specCount, itemCount, programBytes}
 use Rattle.meaning.specs.Spec.{accepted, refused, specRefusal, specOf, readSpec}
 use Rattle.meaning.specs.Number.{textBytes, recordBytes}
 use Rattle.meaning.specs.Lists.{readSpecs, readItems}
 use Rattle.meaning.specs.Deliveries.{header, withinLimit, printed, output}
 use Rattle.promises.proofs.Accepted.{read-passed}
 use Rattle.promises.proofs.Laws.{in-append, in-cons, map-same}
+use Rattle.promises.proofs.Reading.{records-append}
 use Rattle.promises.proofs.Members.{specs-written, items-written}
 use Rattle.gather.specs.Line.{Held, nothing, unknown, fetch, push, name, heldIn}
 use Rattle.gather.specs.Gather.{linesOf, reasonOf, specsIn, namesIn, unlessStopped, gather, gathered}
 use Rattle.gather.specs.Facts.{listing, ReadsBack}
 use Rattle.gather.proofs.Reasons.{spec-passes, name-passes}
-use Rattle.gather.proofs.Walks.{records-append}
 
 -- lists within the limits of document 01, of texts that pass their questions
-record Listed (limit : ℕ) (Passes : Text → Type 0) (l : List Text) : Type 0 where
+record Listed (limit most : ℕ) (Passes : Text → Type 0) (l : List Text) : Type 0 where
   few : length l ≤ limit
   pass : (t : Text) → In t l → Passes t
-  fits : length (recordBytes l) ≤ 65535
+  fits : length (recordBytes l) ≤ most
 
-none-listed : (limit : ℕ) (Passes : Text → Type 0) → Listed limit Passes []
+none-listed : (limit most : ℕ) (Passes : Text → Type 0) → Listed limit most Passes []
 unfolding recordBytes
-none-listed limit Passes = record { few = omega arith; pass = λ t m. elim m [ ]; fits = omega arith }
+none-listed limit most Passes = record { few = omega arith; pass = λ t m. elim m [ ]; fits = omega arith }
 
-same-listed : (limit : ℕ) (Passes : Text → Type 0) (l : List Text) → Listed limit Passes l → Listed limit Passes (l ++ [])
-same-listed limit Passes l p = rw (append-nil l) p
+same-listed : (limit most : ℕ) (Passes : Text → Type 0) (l : List Text) → Listed limit most Passes l → Listed limit most Passes (l ++ [])
+same-listed limit most Passes l p = rw (append-nil l) p
 
 one-size : (l : List Text) (t : Text) → length (recordBytes (l ++ (t ∷ []))) ≡ length (recordBytes l) + length (textBytes t)
 unfolding recordBytes
 one-size l t = ap length (records-append l (t ∷ [])) ∙ length-append (recordBytes l) (recordBytes (t ∷ [])) ∙ ap (λ (x : Text). length (recordBytes l) + length x) (append-nil (textBytes t))
 
-more-listed : (limit : ℕ) (Passes : Text → Type 0) (l : List Text) → Listed limit Passes l → (t : Text) → length l + 1 ≤ limit → Passes t → length (recordBytes l) + length (textBytes t) ≤ 65535 → Listed limit Passes (l ++ (t ∷ []))
-more-listed limit Passes l p t few passes fits =
+more-listed : (limit most : ℕ) (Passes : Text → Type 0) (l : List Text) → Listed limit most Passes l → (t : Text) → length l + 1 ≤ limit → Passes t → length (recordBytes l) + length (textBytes t) ≤ most → Listed limit most Passes (l ++ (t ∷ []))
+more-listed limit most Passes l p t few passes fits =
     record {
       few = omega (arith, length-append l (t ∷ []));
       pass = λ s m. either s (in-append l m);
@@ -57,11 +58,11 @@ more-listed limit Passes l p t few passes fits =
 
 -- what passes
 record SpecText (t : Text) : Type 0 where
-  short : length t ≤ 4096
+  short : length t ≤ specBytes
   reads : readSpec 0 t ≡ accepted (specOf 0 t)
 
 abbrev NameText : Text → Type 0
-NameText t = length t ≤ 4096
+NameText t = length t ≤ nameBytes
 
 reads-own : (t : Text) → specRefusal 0 t ≡ 0 → readSpec 0 t ≡ accepted (specOf 0 t)
 unfolding readSpec
@@ -71,25 +72,25 @@ spec-text : (t : Text) → specRefusal 0 t ≡ 0 → SpecText t
 spec-text t e = record { short = read-passed 0 t (specOf 0 t) (reads-own t e) .size; reads = reads-own t e }
 
 record Both (specs names : List Text) : Type 0 where
-  specs-listed : Listed 256 SpecText specs
-  names-listed : Listed 1024 NameText names
+  specs-listed : Listed specCount specListBytes SpecText specs
+  names-listed : Listed itemCount itemListBytes NameText names
 
 -- a line that is not refused keeps the lists so
 both-more : (specs names : List Text) → Both specs names → (h : Held) → reasonOf (length specs) (length (recordBytes specs)) (length names) (length (recordBytes names)) h ≡ 0 → Both (specs ++ specsIn h) (names ++ namesIn h)
-both-more specs names b nothing e = record { specs-listed = same-listed 256 SpecText specs (b .specs-listed); names-listed = same-listed 1024 NameText names (b .names-listed) }
+both-more specs names b nothing e = record { specs-listed = same-listed specCount specListBytes SpecText specs (b .specs-listed); names-listed = same-listed itemCount itemListBytes NameText names (b .names-listed) }
 both-more specs names b unknown e = absurd (omega arith)
 both-more specs names b (fetch t) e =
     let p = spec-passes (length specs) (length (recordBytes specs)) t e in
     record {
-      specs-listed = more-listed 256 SpecText specs (b .specs-listed) t (omega (arith, p .few)) (spec-text t (p .own)) (p .fits);
-      names-listed = same-listed 1024 NameText names (b .names-listed);
+      specs-listed = more-listed specCount specListBytes SpecText specs (b .specs-listed) t (omega (arith, p .few)) (spec-text t (p .own)) (p .fits);
+      names-listed = same-listed itemCount itemListBytes NameText names (b .names-listed);
     }
 both-more specs names b (push t) e = absurd (omega arith)
 both-more specs names b (name t) e =
     let p = name-passes (length names) (length (recordBytes names)) t e in
     record {
-      specs-listed = same-listed 256 SpecText specs (b .specs-listed);
-      names-listed = more-listed 1024 NameText names (b .names-listed) t (omega (arith, p .few)) (p .short) (p .fits);
+      specs-listed = same-listed specCount specListBytes SpecText specs (b .specs-listed);
+      names-listed = more-listed itemCount itemListBytes NameText names (b .names-listed) t (omega (arith, p .few)) (p .short) (p .fits);
     }
 
 -- the lists of a walk are so, from lists that are
@@ -104,13 +105,13 @@ walk-both k specs names (l ∷ lines) b =
 
 gathered-both : (s : Text) → Both (gathered s .specs) (gathered s .names)
 unfolding gathered
-gathered-both s = walk-both 1 [] [] (linesOf s) (record { specs-listed = none-listed 256 SpecText; names-listed = none-listed 1024 NameText })
+gathered-both s = walk-both 1 [] [] (linesOf s) (record { specs-listed = none-listed specCount specListBytes SpecText; names-listed = none-listed itemCount itemListBytes NameText })
 
 -- such lists are read back
-specs-back : (l : List Text) → Listed 256 SpecText l → readSpecs 0 (recordBytes l) ≡ accepted (map (specOf 0) l)
+specs-back : (l : List Text) → Listed specCount specListBytes SpecText l → readSpecs 0 (recordBytes l) ≡ accepted (map (specOf 0) l)
 specs-back l p =
     let e : map (λ (t : Text). t) l ≡ l = map-same l in
-    let h : length (recordBytes (map (λ (t : Text). t) l)) ≤ 65535 = rw e (p .fits) in
+    let h : length (recordBytes (map (λ (t : Text). t) l)) ≤ specListBytes = rw e (p .fits) in
     ap (λ (m : List Text). readSpecs 0 (recordBytes m)) (sym e) ∙ specs-written 0 (omega arith) (λ (t : Text). t) (specOf 0) l (p .few) (λ t m. p .pass t m .short) (λ t m. p .pass t m .reads) h
 
 -- and give the listing, or 17
@@ -120,9 +121,9 @@ module _ (s : Text) (es : readSpecs 0 (recordBytes (gathered s .specs)) ≡ acce
   gives-listing = rw (es, en)
 
   -- a refusal is told from a listing by its first word
-  limit-marked : begins (bytes "refused ") (output (withinLimit (listing s))) ≡ not (leb (length (listing s)) 65536)
+  limit-marked : begins (bytes "refused ") (output (withinLimit (listing s))) ≡ not (leb (length (listing s)) programBytes)
   unfolding listing header
-  limit-marked = go (leb (length (listing s)) 65536)
+  limit-marked = go (leb (length (listing s)) programBytes)
     where
       go : (b : Bool) → begins (bytes "refused ") (output (cond b (accepted (listing s)) (refused 17 none))) ≡ not b
       go true = refl

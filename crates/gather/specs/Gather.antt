@@ -5,7 +5,7 @@ use mathlib.Core.List.{List, [], _∷_, _++_}
 use lib.Dec.{eqb, leb, ltb}
 use lib.ListN.{length}
 use Rattle.meaning.specs.Bytes.{Text}
-use Rattle.meaning.specs.Limits.{specListBytes, specCount, itemCount, nameBytes}
+use Rattle.meaning.specs.Limits.{specListBytes, specCount, itemCount, nameBytes, itemListBytes}
 use Rattle.meaning.specs.Spec.{_else_then_, specRefusal}
 use Rattle.meaning.specs.Number.{textBytes, recordBytes}
 use Rattle.gather.specs.Line.{Held, nothing, unknown, fetch, push, name, heldIn}
@@ -24,23 +24,23 @@ abbrev pub linesOf : Text → List Text
 linesOf [] = []
 linesOf (x ∷ s) = cond (eqb lineFeed x) ([] ∷ linesOf s) (beforeFirst x (linesOf s))
 
--- 12 where a list of `size` bytes would be too long with a text more; 0: it is not
-unfoldable pub roomReason : ℕ → Text → ℕ
-roomReason size t = leb (size + length (textBytes t)) specListBytes else 12 then 0
+-- 12 where a list of `size` bytes would be above its limit with a text more; 0: it is not
+unfoldable pub roomReason : ℕ → ℕ → Text → ℕ
+roomReason limit size t = leb (size + length (textBytes t)) limit else 12 then 0
 
 -- why a spec is refused that so many specs come before, in a list of `size` bytes; 0: it is not
 unfoldable pub specReason : ℕ → ℕ → Text → ℕ
 specReason count size t =
     ltb count specCount else 14 then
     eqb (specRefusal 0 t) 0 else specRefusal 0 t then
-    roomReason size t
+    roomReason specListBytes size t
 
 -- why a name is refused that so many names come before, in a list of `size` bytes; 0: it is not
 unfoldable pub nameReason : ℕ → ℕ → Text → ℕ
 nameReason count size t =
     ltb count itemCount else 14 then
     leb (length t) nameBytes else 15 then
-    roomReason size t
+    roomReason itemListBytes size t
 
 -- why what a line holds is refused, after lists of so many records and bytes: 101 for a push, 102 for a line of no known kind; 0: it is not
 abbrev pub reasonOf : ℕ → ℕ → ℕ → ℕ → Held → ℕ

@@ -2,13 +2,14 @@
 ghost use mathlib.Core.Path.{_≡_};
 ghost use Prim.Native.Nat.{_+_, _≤_};
 ghost use lib.ListN.{length};
-ghost use Rattle.meaning.specs.Limits.{specListBytes, programBytes};
+ghost use Rattle.meaning.specs.Limits.{specListBytes, programBytes, itemListBytes};
 ghost use Rattle.meaning.specs.Number.{textBytes};
 ghost use Rattle.buffer.specs.Splice.{splice};
 ghost use Rattle.gather.specs.Line.{heldIn};
 ghost use Rattle.gather.specs.Gather.{roomReason, specReason, nameReason, gathered};
 ghost use Rattle.gather.specs.Growing.{stopped, Room, SpecAdds, NameAdds, LineAdds, Gathers};
 use limits::ITEM_COUNT;
+use limits::ITEM_LIST_BYTES;
 use limits::NAME_BYTES;
 use limits::SPEC_COUNT;
 use limits::SPEC_LIST_BYTES;
@@ -43,13 +44,13 @@ struct Lists {
     name_bytes: usize,
 }
 
-// 12 where a list of `size` bytes has no room for a text.
-fn room_reason(size: usize, t: &[u8]) -> u64
-    requires { ⌜ (size ≤ specListBytes) × (length (now t) ≤ programBytes) ⌝ }
-    ensures { λ r. ⌜ r ≡ roomReason size (now (t .entry)) ⌝ }
+// 12 where a list of `size` bytes, of which it may have `limit`, has no room for a text.
+fn room_reason(limit: usize, size: usize, t: &[u8]) -> u64
+    requires { ⌜ (size ≤ limit) × (length (now t) ≤ programBytes) ⌝ }
+    ensures { λ r. ⌜ r ≡ roomReason limit size (now (t .entry)) ⌝ }
 {
     let n = t.len();
-    if SPEC_LIST_BYTES < size + (number::size(n) + n) {
+    if limit - size < number::size(n) + n {
         return 12;
     }
     0
@@ -64,14 +65,14 @@ fn spec_reason(count: usize, size: usize, t: &[u8]) -> u64
         return 14;
     }
     match parse::parse(0, t) {
-        Parsed::Spec(_) => room_reason(size, t),
+        Parsed::Spec(_) => room_reason(SPEC_LIST_BYTES, size, t),
         Parsed::Refused(n) => n,
     }
 }
 
 // Why a name is refused that so many come before, in a list of `size` bytes, or 0.
 fn name_reason(count: usize, size: usize, t: &[u8]) -> u64
-    requires { ⌜ (size ≤ specListBytes) × (length (now t) ≤ programBytes) ⌝ }
+    requires { ⌜ (size ≤ itemListBytes) × (length (now t) ≤ programBytes) ⌝ }
     ensures { λ r. ⌜ r ≡ nameReason count size (now (t .entry)) ⌝ }
 {
     if ITEM_COUNT <= count {
@@ -80,7 +81,7 @@ fn name_reason(count: usize, size: usize, t: &[u8]) -> u64
     if NAME_BYTES < t.len() {
         return 15;
     }
-    room_reason(size, t)
+    room_reason(ITEM_LIST_BYTES, size, t)
 }
 
 // Writes a text with its length before it, and answers the place after it.
@@ -108,7 +109,7 @@ fn stopped(so: Lists, reason: u64) -> Lists
 
 // Adds a spec, unless it is refused.
 fn add_spec(t: &[u8], specs: &mut [u8], so: Lists) -> Lists
-    requires { ⌜ (length (now t) ≤ programBytes) × Room (so .«spec_bytes») (now specs) ⌝ }
+    requires { ⌜ (length (now t) ≤ programBytes) × Room specListBytes (so .«spec_bytes») (now specs) ⌝ }
     ensures { λ r. ⌜ SpecAdds (now (t .entry)) so r (now (specs .entry)) (now (specs .exit)) ⌝ }
 {
     let reason = spec_reason(so.specs, so.spec_bytes, t);
@@ -127,7 +128,7 @@ fn add_spec(t: &[u8], specs: &mut [u8], so: Lists) -> Lists
 
 // Adds a name, unless it is refused.
 fn add_name(t: &[u8], items: &mut [u8], so: Lists) -> Lists
-    requires { ⌜ (length (now t) ≤ programBytes) × Room (so .«name_bytes») (now items) ⌝ }
+    requires { ⌜ (length (now t) ≤ programBytes) × Room itemListBytes (so .«name_bytes») (now items) ⌝ }
     ensures { λ r. ⌜ NameAdds (now (t .entry)) so r (now (items .entry)) (now (items .exit)) ⌝ }
 {
     let reason = name_reason(so.names, so.name_bytes, t);
@@ -146,7 +147,7 @@ fn add_name(t: &[u8], items: &mut [u8], so: Lists) -> Lists
 
 // Adds what a line holds, unless it is refused.
 fn add_line(line: &[u8], specs: &mut [u8], items: &mut [u8], so: Lists) -> Lists
-    requires { ⌜ (length (now line) ≤ programBytes) × Room (so .«spec_bytes») (now specs) × Room (so .«name_bytes») (now items) ⌝ }
+    requires { ⌜ (length (now line) ≤ programBytes) × Room specListBytes (so .«spec_bytes») (now specs) × Room itemListBytes (so .«name_bytes») (now items) ⌝ }
     ensures { λ r. ⌜ LineAdds (heldIn (now (line .entry))) so r (now (specs .entry)) (now (items .entry)) (now (specs .exit)) (now (items .exit)) ⌝ }
 {
     match classify(line) {
@@ -160,7 +161,7 @@ fn add_line(line: &[u8], specs: &mut [u8], items: &mut [u8], so: Lists) -> Lists
 
 // The lists that the lines of a text give, written at the start of the buffers; where a line is refused, those of the lines before it.
 pub fn gather(input: &[u8], specs: &mut [u8], items: &mut [u8]) -> Gathered
-    requires { ⌜ (length (now input) ≤ programBytes) × (specListBytes ≤ length (now specs)) × (specListBytes ≤ length (now items)) ⌝ }
+    requires { ⌜ (length (now input) ≤ programBytes) × (specListBytes ≤ length (now specs)) × (itemListBytes ≤ length (now items)) ⌝ }
     ensures { λ r. ⌜ Gathers (gathered (now (input .entry))) (now (specs .entry)) (now (items .entry)) (now (specs .exit)) (now (items .exit)) r ⌝ }
 {
     let mut at = 0;
