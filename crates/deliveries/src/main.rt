@@ -2,13 +2,16 @@
 use deliver::deliver;
 use libc::STDIN_FILENO;
 use libc::STDOUT_FILENO;
+use limits::PROGRAM_BYTES;
 
 // The input has room for one byte above its limit, so that a longer one shows.
+const INPUT: usize = PROGRAM_BYTES + 1;
+
 fn main() {
-    let mut input = [0u8; 65537];
+    let mut input = [0u8; INPUT];
     let n = io::read_full(STDIN_FILENO, &mut input);
-    let mut rows = [0u8; 65536];
-    let mut out = [0u8; 65536];
+    let mut rows = [0u8; PROGRAM_BYTES];
+    let mut out = [0u8; PROGRAM_BYTES];
     let size = deliver(&input[..n], &mut rows, &mut out);
     io::write_all(STDOUT_FILENO, &out[..size]);
 }

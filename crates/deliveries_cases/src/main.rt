@@ -4,6 +4,10 @@ ghost use Prim.Native.Nat.{_<_};
 use deliver::deliver;
 use libc::STDIN_FILENO;
 use libc::STDOUT_FILENO;
+use limits::PROGRAM_BYTES;
+
+// The longest input: one byte above its limit.
+const INPUT: usize = PROGRAM_BYTES + 1;
 
 // A byte as a number.
 fn wide(b: u8) -> usize
@@ -19,8 +23,8 @@ fn length_of(four: [u8; 4]) -> usize {
 
 // Prints what an input gives.
 fn print_input(input: &[u8]) {
-    let mut rows = [0u8; 65536];
-    let mut out = [0u8; 65536];
+    let mut rows = [0u8; PROGRAM_BYTES];
+    let mut out = [0u8; PROGRAM_BYTES];
     let size = deliver(input, &mut rows, &mut out);
     io::write_all(STDOUT_FILENO, &out[..size]);
 }
@@ -36,7 +40,7 @@ fn print_in(buffer: &mut [u8]) -> bool {
 
 // Reads an input of n bytes, and prints what it gives.
 fn print_of(n: usize) -> bool {
-    let mut buffer = [0u8; 65537];
+    let mut buffer = [0u8; INPUT];
     if buffer.len() < n {
         return false;
     }

@@ -2,10 +2,14 @@
 // that begin with `#` are passed over. A line that is refused is named alone, with the reason.
 ghost use Prim.Native.Nat.{_≤_};
 ghost use lib.ListN.{length};
+ghost use Rattle.meaning.specs.Limits.{programBytes};
 use deliver::print_lists;
 use gather::gather;
 use libc::STDIN_FILENO;
 use libc::STDOUT_FILENO;
+use limits::ITEM_LIST_BYTES;
+use limits::PROGRAM_BYTES;
+use limits::SPEC_LIST_BYTES;
 use words::reason;
 
 // Prints bytes as they are.
@@ -24,8 +28,8 @@ fn show_printed(t: &[u8]) {
 
 // Prints the listing of a spec list and an item list.
 fn show_lists(specs: &[u8], items: &[u8]) {
-    let mut rows = [0u8; 65536];
-    let mut out = [0u8; 65536];
+    let mut rows = [0u8; PROGRAM_BYTES];
+    let mut out = [0u8; PROGRAM_BYTES];
     let size = print_lists(specs, items, &mut rows, &mut out);
     show_printed(&out[..size]);
 }
@@ -44,10 +48,10 @@ fn show_refused(line: u64, number: u64) {
 
 // Prints what the lines of a text give.
 fn show(input: &[u8])
-    requires { ⌜ length (now input) ≤ 65536 ⌝ }
+    requires { ⌜ length (now input) ≤ programBytes ⌝ }
 {
-    let mut specs = [0u8; 65536];
-    let mut items = [0u8; 65536];
+    let mut specs = [0u8; SPEC_LIST_BYTES];
+    let mut items = [0u8; ITEM_LIST_BYTES];
     let g = gather(input, &mut specs, &mut items);
     if g.reason != 0 {
         show_refused(g.line as u64, g.reason);
@@ -59,7 +63,7 @@ fn show(input: &[u8])
 }
 
 fn main() {
-    let mut input = io::large_buffer();
+    let mut input = [0u8; PROGRAM_BYTES];
     let n = io::read_full(STDIN_FILENO, &mut input);
     let mut more = [0u8; 1];
     let beyond = io::read_full(STDIN_FILENO, &mut more);

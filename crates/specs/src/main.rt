@@ -2,9 +2,11 @@
 // names are passed over.
 ghost use Prim.Native.Nat.{_≤_};
 ghost use lib.ListN.{length};
+ghost use Rattle.meaning.specs.Limits.{programBytes};
 use gather::line::Line;
 use gather::line::classify;
 use libc::STDIN_FILENO;
+use limits::PROGRAM_BYTES;
 
 mod print;
 mod show;
@@ -40,7 +42,7 @@ fn show_from(number: u64, op: u64, line: &[u8], start: usize) {
 
 // Prints what each line becomes.
 fn show_lines(s: &[u8])
-    requires { ⌜ length (now s) ≤ 65536 ⌝ }
+    requires { ⌜ length (now s) ≤ programBytes ⌝ }
 {
     let mut at = 0;
     let mut number: u64 = 1;
@@ -53,7 +55,7 @@ fn show_lines(s: &[u8])
 }
 
 fn main() {
-    let mut input = io::large_buffer();
+    let mut input = [0u8; PROGRAM_BYTES];
     let n = io::read_full(STDIN_FILENO, &mut input);
     let mut more = [0u8; 1];
     let beyond = io::read_full(STDIN_FILENO, &mut more);
