@@ -2,8 +2,11 @@
 use mathlib.Core.Path.{_≡_, refl}
 use mathlib.Core.List.{List, [], _∷_, _++_}
 use mathlib.Core.Option.{Option, none, some}
+use Prim.Native.Nat.{_+_, _^_, _≤_, _<_}
+use lib.Dec.{lit≤, lit<}
 use lib.ListN.{length, replicate}
 use Rattle.meaning.specs.Bytes.{Text, bytes}
+use Rattle.meaning.specs.Limits.{specBytes, nameBytes, specListBytes, itemListBytes, rowListBytes, specCount, itemCount, largestNumber, decimalDigits}
 use Rattle.meaning.specs.Spec.{accepted, refused, Mode, Normal, Negative, Spec, readSpec}
 use Rattle.meaning.specs.Number.{recordBytes}
 use Rattle.meaning.specs.Lists.{readSpecs, readItems}
@@ -12,6 +15,17 @@ use Rattle.meaning.specs.Everything.{everything}
 -- a spec, written short
 abbrev spec : Mode → Option Text → Option Text → Spec
 spec m s d = record { mode = m; source = s; destination = d }
+
+-- what the limits owe one another: a number can say the size of each list and of each text that a spec makes of a name, and as many
+-- digits as are printed the number of each item and of each spec
+pub owed :
+    (specListBytes ≤ largestNumber)
+    × (itemListBytes ≤ largestNumber)
+    × (rowListBytes ≤ largestNumber)
+    × (specBytes + nameBytes < largestNumber)
+    × (itemCount ≤ 10 ^ decimalDigits)
+    × (specCount ≤ 10 ^ decimalDigits)
+owed = (lit≤ tt, lit≤ tt, lit≤ tt, lit< tt, lit≤ tt, lit≤ tt)
 
 -- 65,535 bytes of items
 abbrev fullItems : List Text
