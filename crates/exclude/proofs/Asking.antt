@@ -11,7 +11,7 @@ use lib.ListN.{length}
 use Rattle.meaning.specs.Bytes.{Text, _or_}
 use Rattle.promises.proofs.Laws.{or-right}
 use Rattle.exclude.specs.declared.Negative.{Negative}
-use Rattle.exclude.specs.Negatives.{negativeMatches, NegativeWithin, negativeAt, excludedBy}
+use Rattle.exclude.specs.Negatives.{negativeNumbers, negativeMatches, NegativeWithin, negativeAt, excludedBy}
 
 -- where one matches, the name is excluded
 one-excludes : (s : Text) (t : List ℕ) (name : Text) (k count : ℕ) → k < count → negativeMatches s name (negativeAt t k) ≡ true → excludedBy s t count name ≡ true
@@ -24,7 +24,7 @@ one-excludes s t name k (suc count) l e = go (eq-or-lt-of-le (let h : k ≤ coun
 
 module _ (s : Text) (t : List ℕ) (count : ℕ) (name : Text) (k : ℕ) where
   -- the numbers of one are there
-  pub asking-room : k < count → 4 * count ≤ length t → 4 * k + 4 ≤ length t
+  pub asking-room : k < count → negativeNumbers * count ≤ length t → negativeNumbers * k + negativeNumbers ≤ length t
   asking-room l h = omega arith
 
   module _ (n : Negative) (en : n ≡ negativeAt t k) where

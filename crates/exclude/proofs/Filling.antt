@@ -11,13 +11,14 @@ use borrow.Author.Tests.{not-true, not-false}
 use lib.ListN.{length, take, getD}
 use lib.Seq.{take-suc}
 use Rattle.meaning.specs.Bytes.{Text, _or_, any}
+use Rattle.meaning.specs.Limits.{specCount}
 use Rattle.meaning.specs.Spec.{Spec, isNegative}
 use Rattle.meaning.specs.Listing.{excludes}
 use Rattle.compare.proofs.Sames.{or-false}
 use Rattle.parse.specs.declared.types.RefSpec.{RefSpec}
 use Rattle.parse.specs.Places.{modeMeant, SidesWithin, specMeant}
 use Rattle.exclude.specs.declared.Negative.{Negative}
-use Rattle.exclude.specs.Negatives.{NegativeWithin, negativeAt, excludedBy, Negatives}
+use Rattle.exclude.specs.Negatives.{negativeNumbers, NegativeWithin, negativeAt, excludedBy, Negatives}
 use Rattle.exclude.specs.Making.{negativeOf, Put, Added}
 use Rattle.exclude.proofs.Forms.{negative-within, negative-excludes, positive-excludes}
 use Rattle.exclude.proofs.Arms.{within-more}
@@ -72,7 +73,7 @@ pub negatives-none : (s : Text) (t : List ℕ) → Negatives s [] t 0
 negatives-none s t = record { room = omega arith; within = λ k l. absurd (omega arith); decides = λ name. refl; few = omega arith }
 
 -- a spec that is added joins the group
-module _ (s : Text) (t : List ℕ) (k : ℕ) (u : List ℕ) (count : ℕ) (room : 4 * k + 4 ≤ length t) (few : k < 256) where
+module _ (s : Text) (t : List ℕ) (k : ℕ) (u : List ℕ) (count : ℕ) (room : negativeNumbers * k + negativeNumbers ≤ length t) (few : k < specCount) where
   pub negatives-more : (group : List Spec) (spec : Spec) → Negatives s group t k → Added s spec t k u count → Negatives s (group ++ (spec ∷ [])) u count
   negatives-more group spec n a = record {
     room = omega (arith, a .size, a .one);

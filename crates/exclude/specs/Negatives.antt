@@ -6,6 +6,7 @@ use mathlib.Core.List.{List}
 use mathlib.Core.Option.{Option}
 use lib.ListN.{length, take, drop, getD}
 use Rattle.meaning.specs.Bytes.{Text, bytes, _or_, any, same, present}
+use Rattle.meaning.specs.Limits.{specCount}
 use Rattle.meaning.specs.Spec.{Spec}
 use Rattle.meaning.specs.Match.{capture}
 use Rattle.meaning.specs.Listing.{excludes}
@@ -31,6 +32,10 @@ NegativeWithin n Head = Unit {0}
 NegativeWithin n (Literal at len) = at + len ≤ n
 NegativeWithin n (Glob at len star) = (at + len ≤ n) × (star < len)
 
+-- how many numbers a negative has in a table
+abbrev pub negativeNumbers : ℕ
+negativeNumbers = 4
+
 -- the negative that four numbers tell
 abbrev pub negativeFrom : ℕ → ℕ → ℕ → ℕ → Negative
 negativeFrom zero at len star = Nothing
@@ -38,9 +43,9 @@ negativeFrom (suc zero) at len star = Head
 negativeFrom (suc (suc zero)) at len star = Literal at len
 negativeFrom (suc (suc (suc more))) at len star = Glob at len star
 
--- negative number k of a table, which has four numbers for each
+-- negative number k of a table
 unfoldable pub negativeAt : List ℕ → ℕ → Negative
-negativeAt t k = negativeFrom (getD t (4 * k) 0) (getD t (4 * k + 1) 0) (getD t (4 * k + 2) 0) (getD t (4 * k + 3) 0)
+negativeAt t k = negativeFrom (getD t (negativeNumbers * k) 0) (getD t (negativeNumbers * k + 1) 0) (getD t (negativeNumbers * k + 2) 0) (getD t (negativeNumbers * k + 3) 0)
 
 -- one of the first `count` negatives of a table matches a name
 abbrev pub excludedBy : Text → List ℕ → ℕ → Text → Bool
@@ -49,7 +54,7 @@ excludedBy s t (suc k) name = excludedBy s t k name or negativeMatches s name (n
 
 -- a table holds `count` negatives, which exclude what those of a group do
 pub record Negatives (s : Text) (group : List Spec) (t : List ℕ) (count : ℕ) : Type 0 where
-  pub room : 4 * count ≤ length t
+  pub room : negativeNumbers * count ≤ length t
   pub within : (k : ℕ) → k < count → NegativeWithin (length s) (negativeAt t k)
   pub decides : (name : Text) → excludedBy s t count name ≡ any (excludes name) group
-  pub few : count ≤ 256
+  pub few : count ≤ specCount

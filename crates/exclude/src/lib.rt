@@ -6,7 +6,7 @@ ghost use lib.ListN.{length};
 ghost use Rattle.meaning.specs.Bytes.{same, present};
 ghost use Rattle.meaning.specs.Limits.{specListBytes};
 ghost use Rattle.parse.specs.Places.{partAt, Within, SidesWithin, specMeant};
-ghost use Rattle.exclude.specs.Negatives.{inPlaceOfStar, negativeMatches, NegativeWithin, negativeFrom, negativeAt, excludedBy};
+ghost use Rattle.exclude.specs.Negatives.{negativeNumbers, inPlaceOfStar, negativeMatches, NegativeWithin, negativeFrom, negativeAt, excludedBy};
 ghost use Rattle.exclude.specs.Making.{textNegative, sideNegative, isGlob, besides, negativeOf, Put, Added};
 
 mod pieces;
@@ -19,6 +19,9 @@ use parse::types::is_present;
 use pieces::pieces_glob;
 use pieces::pieces_same;
 use sides::wide;
+
+// How many numbers a negative has in a table.
+pub const NEGATIVE_NUMBERS: usize = 4;
 
 // What a negative spec looks for, as places in the spec list.
 pub enum Negative {
@@ -105,10 +108,10 @@ fn negative_of(specs: &[u8], r: RefSpec) -> Negative
 
 // Four numbers are put into a table as those of number k; the number after it.
 fn put_numbers(out: &mut [u16], k: usize, kind: usize, at: usize, len: usize, star: usize) -> usize
-    requires { ⌜ (4 * k + 4 ≤ length (now out)) × (kind ≤ 3) × (at ≤ specListBytes) × (len ≤ specListBytes) × (star ≤ specListBytes) ⌝ }
+    requires { ⌜ (negativeNumbers * k + negativeNumbers ≤ length (now out)) × (kind ≤ 3) × (at ≤ specListBytes) × (len ≤ specListBytes) × (star ≤ specListBytes) ⌝ }
     ensures { λ r. ⌜ (r ≡ k + 1) × Put (now (out .entry)) k (negativeFrom kind at len star) (now (out .exit)) ⌝ }
 {
-    let i = 4 * k;
+    let i = NEGATIVE_NUMBERS * k;
     out[i] = kind as u16;
     out[i + 1] = at as u16;
     out[i + 2] = len as u16;
@@ -118,7 +121,7 @@ fn put_numbers(out: &mut [u16], k: usize, kind: usize, at: usize, len: usize, st
 
 // A negative is put into a table as number k; the number after it.
 fn put_negative(out: &mut [u16], k: usize, n: Negative) -> usize
-    requires { ⌜ (4 * k + 4 ≤ length (now out)) × NegativeWithin specListBytes n ⌝ }
+    requires { ⌜ (negativeNumbers * k + negativeNumbers ≤ length (now out)) × NegativeWithin specListBytes n ⌝ }
     ensures { λ r. ⌜ (r ≡ k + 1) × Put (now (out .entry)) k n (now (out .exit)) ⌝ }
 {
     match n {
@@ -131,7 +134,7 @@ fn put_negative(out: &mut [u16], k: usize, n: Negative) -> usize
 
 // A spec is added to the first k negatives of a table, if it is one; how many they are then.
 pub fn put_if_negative(specs: &[u8], r: RefSpec, k: usize, out: &mut [u16]) -> usize
-    requires { ⌜ SidesWithin (length (now specs)) r × (length (now specs) ≤ specListBytes) × (4 * k + 4 ≤ length (now out)) ⌝ }
+    requires { ⌜ SidesWithin (length (now specs)) r × (length (now specs) ≤ specListBytes) × (negativeNumbers * k + negativeNumbers ≤ length (now out)) ⌝ }
     ensures { λ n. ⌜ Added (now (specs .entry)) (specMeant (now (specs .entry)) r) (now (out .entry)) k (now (out .exit)) n ⌝ }
 {
     let m = r.mode;
@@ -156,10 +159,10 @@ fn negative_from(kind: usize, at: usize, len: usize, star: usize) -> Negative
 
 // Negative number k of a table.
 fn negative_at(table: &[u16], k: usize) -> Negative
-    requires { ⌜ 4 * k + 4 ≤ length (now table) ⌝ }
+    requires { ⌜ negativeNumbers * k + negativeNumbers ≤ length (now table) ⌝ }
     ensures { λ r. ⌜ r ≡ negativeAt (now (table .entry)) k ⌝ }
 {
-    let i = 4 * k;
+    let i = NEGATIVE_NUMBERS * k;
     negative_from(
         wide(table[i]),
         wide(table[i + 1]),
@@ -204,7 +207,7 @@ fn matches(specs: &[u8], n: Negative, name: &[u8]) -> bool
 
 // One of the first `count` negatives of a table matches a name.
 pub fn excluded(specs: &[u8], negatives: &[u16], count: usize, name: &[u8]) -> bool
-    requires { ⌜ (4 * count ≤ length (now negatives)) × ((k : ℕ) → k < count → NegativeWithin (length (now specs)) (negativeAt (now negatives) k)) ⌝ }
+    requires { ⌜ (negativeNumbers * count ≤ length (now negatives)) × ((k : ℕ) → k < count → NegativeWithin (length (now specs)) (negativeAt (now negatives) k)) ⌝ }
     ensures { λ r. ⌜ r ≡ excludedBy (now (specs .entry)) (now (negatives .entry)) count (now (name .entry)) ⌝ }
 {
     let mut k = 0;
@@ -266,7 +269,7 @@ pub fn excluded_pieces(
     b: &[u8],
     c: &[u8],
 ) -> bool
-    requires { ⌜ (4 * count ≤ length (now negatives)) × ((k : ℕ) → k < count → NegativeWithin (length (now specs)) (negativeAt (now negatives) k)) ⌝ }
+    requires { ⌜ (negativeNumbers * count ≤ length (now negatives)) × ((k : ℕ) → k < count → NegativeWithin (length (now specs)) (negativeAt (now negatives) k)) ⌝ }
     ensures { λ r. ⌜ r ≡ excludedBy (now (specs .entry)) (now (negatives .entry)) count (now (a .entry) ++ (now (b .entry) ++ now (c .entry))) ⌝ }
 {
     let mut i = 0;

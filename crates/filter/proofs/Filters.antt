@@ -77,7 +77,7 @@ stopped f name true p h = absurd (true≢false (sym (h refl) ∙ p))
 
 -- ---- the side as a whole
 whole-stops : (specs : Text) (s : Side) (name : Text) → Within (length specs) s → length name ≤ nameBytes → passes (wholeFilter specs s) name ≡ false → same (sideText specs s) name ≡ false
-whole-stops specs side.Absent name w l p = stopped (wholeFilter specs side.Absent) name (same [] name) p (λ e. lets-sized 0 4096 name (omega arith) l)
+whole-stops specs side.Absent name w l p = stopped (wholeFilter specs side.Absent) name (same [] name) p (λ e. lets-sized 0 nameBytes name (omega arith) l)
 whole-stops specs (side.Part at n) name w l p = stopped (alike specs at n n n) name (same (partAt specs at n) name) p through
   where
     through : same (partAt specs at n) name ≡ true → passes (alike specs at n n n) name ≡ true
@@ -111,7 +111,7 @@ start-stops specs (side.Part at n) star name w h l p = stopped-capture (startFil
         let b : begins (partAt specs at star) name ≡ true = rw is at e in
         let y : length (take star (partAt specs at n)) ≡ star = rw is (part-length specs at star (omega arith)) in
         let z : length (drop (suc star) (partAt specs at n)) ≡ n - suc star = length-drop (suc star) (partAt specs at n) ∙ ap (λ (k : ℕ). k - suc star) (part-length specs at n w) in
-        lets-alike specs at star (n - 1) 4096 name (omega arith) (omega arith) l b
+        lets-alike specs at star (n - 1) nameBytes name (omega arith) (omega arith) l b
 start-stops specs side.Head star name w h l p = absurd h
 
 -- ---- the candidates of a side
@@ -133,7 +133,7 @@ none-framed name t out =
         same-other-length name (a ++ (t ++ b)) (λ e. out (length a + length b) f h (omega (arith, e, z)))
 
 part-stops : (specs : Text) (s : Side) (name : Text) → Within (length specs) s → length name ≤ nameBytes → passes (partFilter s) name ≡ false → any (same name) (candidates (sideText specs s)) ≡ false
-part-stops specs side.Absent name w l p = absurd (true≢false (sym (lets-sized 0 4096 name (omega arith) l) ∙ p))
+part-stops specs side.Absent name w l p = absurd (true≢false (sym (lets-sized 0 nameBytes name (omega arith) l) ∙ p))
 part-stops specs (side.Part at n) name w l p =
     none-framed name (partAt specs at n) (λ d f h e. true≢false (sym (lets-framed n d name f h (rw (part-length specs at n w) at e)) ∙ p))
 part-stops specs side.Head name w l p = none-framed name (bytes "HEAD") (λ d f h e. true≢false (sym (lets-framed 4 d name f h e) ∙ p))
@@ -152,17 +152,17 @@ alike-within s at n least most h = go (ltb n 8) refl
     go false e i = let l : 8 ≤ n = ltb-false n 8 e in omega arith
 
 whole-within : (specs : Text) (s : Side) → FilterWithin (wholeFilter specs s)
-whole-within specs side.Absent = sized-within 0 4096 false
+whole-within specs side.Absent = sized-within 0 nameBytes false
 whole-within specs (side.Part at n) = alike-within specs at n n n (omega arith)
 whole-within specs side.Head = sized-within 4 4 false
 
 start-within : (specs : Text) (s : Side) (star : ℕ) → StarIn star s → FilterWithin (startFilter specs s star)
 start-within specs side.Absent star i = absurd i
-start-within specs (side.Part at n) star i = alike-within specs at star (n - 1) 4096 (omega arith)
+start-within specs (side.Part at n) star i = alike-within specs at star (n - 1) nameBytes (omega arith)
 start-within specs side.Head star i = absurd i
 
 part-filter-within : (s : Side) → FilterWithin (partFilter s)
-part-filter-within side.Absent = sized-within 0 4096 false
+part-filter-within side.Absent = sized-within 0 nameBytes false
 part-filter-within (side.Part at n) = sized-within n (n + 18) true
 part-filter-within side.Head = sized-within 4 22 true
 
@@ -225,7 +225,7 @@ module _ (specs : Text) (m : Matcher) (w : MatcherWithin (length specs) m) where
 
 -- ---- the arms of a `match` on a side
 module _ (specs : Text) (s : Side) (f : Filter) where
-  pub whole-absent : s ≡ side.Absent → f ≡ sized 0 4096 false → f ≡ wholeFilter specs s
+  pub whole-absent : s ≡ side.Absent → f ≡ sized 0 nameBytes false → f ≡ wholeFilter specs s
   whole-absent is e = rw is e
 
   pub whole-part : (at n : ℕ) → s ≡ side.Part at n → f ≡ alike specs at n n n → f ≡ wholeFilter specs s
@@ -235,17 +235,17 @@ module _ (specs : Text) (s : Side) (f : Filter) where
   whole-head is e = rw is e
 
   module _ (star : ℕ) where
-    pub start-absent : s ≡ side.Absent → f ≡ sized 0 4096 false → f ≡ startFilter specs s star
+    pub start-absent : s ≡ side.Absent → f ≡ sized 0 nameBytes false → f ≡ startFilter specs s star
     start-absent is e = rw is e
 
-    pub start-part : (at n : ℕ) → s ≡ side.Part at n → f ≡ alike specs at star (n - 1) 4096 → f ≡ startFilter specs s star
+    pub start-part : (at n : ℕ) → s ≡ side.Part at n → f ≡ alike specs at star (n - 1) nameBytes → f ≡ startFilter specs s star
     start-part at n is e = rw is e
 
-    pub start-head : s ≡ side.Head → f ≡ sized 0 4096 false → f ≡ startFilter specs s star
+    pub start-head : s ≡ side.Head → f ≡ sized 0 nameBytes false → f ≡ startFilter specs s star
     start-head is e = rw is e
 
 module _ (s : Side) (f : Filter) where
-  pub part-absent : s ≡ side.Absent → f ≡ sized 0 4096 false → f ≡ partFilter s
+  pub part-absent : s ≡ side.Absent → f ≡ sized 0 nameBytes false → f ≡ partFilter s
   part-absent is e = rw is e
 
   pub part-part : (at n : ℕ) → s ≡ side.Part at n → f ≡ sized n (n + 18) true → f ≡ partFilter s

@@ -56,19 +56,19 @@ noFilter = sized 1 0 false
 
 -- what is a side as a whole
 abbrev pub wholeFilter : Text → Side → Filter
-wholeFilter s Absent = sized 0 4096 false
+wholeFilter s Absent = sized 0 nameBytes false
 wholeFilter s (Part at n) = alike s at n n n
 wholeFilter s Head = sized 4 4 false
 
 -- what begins with a side up to its star, and is not shorter than the rest of it
 abbrev pub startFilter : Text → Side → ℕ → Filter
-startFilter s Absent star = sized 0 4096 false
-startFilter s (Part at n) star = alike s at star (n - 1) 4096
-startFilter s Head star = sized 0 4096 false
+startFilter s Absent star = sized 0 nameBytes false
+startFilter s (Part at n) star = alike s at star (n - 1) nameBytes
+startFilter s Head star = sized 0 nameBytes false
 
 -- what may be a candidate of a side
 abbrev pub partFilter : Side → Filter
-partFilter Absent = sized 0 4096 false
+partFilter Absent = sized 0 nameBytes false
 partFilter (Part at n) = sized n (n + 18) true
 partFilter Head = sized 4 22 true
 

@@ -8,19 +8,21 @@ use mir.Val.{Fits}
 use mir.Syntax.{w64}
 use lib.ListN.{length, getD}
 use Rattle.meaning.specs.Bytes.{Text}
+use Rattle.meaning.specs.Limits.{nameBytes, itemCount, specCount}
 use Rattle.meaning.specs.Spec.{Spec}
 use Rattle.parse.specs.Places.{partAt}
 use Rattle.parse.proofs.Parts.{part-length}
 use Rattle.matcher.specs.declared.types.Matcher.{Matcher}
 use Rattle.matcher.specs.Matching.{MatcherWithin}
-use Rattle.matchers.specs.Numbers.{matcherAt}
+use Rattle.matchers.specs.Numbers.{matcherNumbers, matcherAt}
 use Rattle.filter.specs.declared.Filter.{Filter}
 use Rattle.filter.specs.Filters.{passes, nameAt, StopsForward, StopsReverse}
 use Rattle.filter.proofs.Looks.{none-passes}
+use Rattle.row.specs.Rows.{rowMost}
 use Rattle.pair.specs.Pairs.{specOf, itemBytes, objectBytes}
 use Rattle.pair.specs.Asking.{Ready}
-use Rattle.hits.specs.Hits.{across, specAt, pairBytes, namesBytes, specBytes, hitOf, hitIf, pairHits, namesHits, specHits}
-use Rattle.hits.specs.Noting.{PlacesIn, TableReady, Stops, Adds}
+use Rattle.hits.specs.Hits.{across, specAt, pairGives, namesGive, specGives, hitStride, hitOf, hitMost, hitIf, pairHits, namesHits, specHits}
+use Rattle.hits.specs.Noting.{specMost, groupMost, objectsMost, PlacesIn, TableReady, Stops, Adds}
 use Rattle.hits.proofs.Across.{across-next, across-none, across-jump}
 use Rattle.hits.proofs.Counting.{Counted, counted-starts, counted-more, counted-on, counted-whole}
 use Rattle.hits.proofs.Notes.{Noting, noting-starts, noting-more, noting-on, noting-done}
@@ -29,41 +31,41 @@ use Rattle.hits.proofs.Notes.{Noting, noting-starts, noting-more, notin
 
 module _ (items : Text) (places : List ℕ) (n : ℕ) (p : PlacesIn items places n) where
   pub places-room : 2 * n ≤ length places
-  places-room = omega (arith, p .few, p .room)
+  places-room = p .room
 
   pub places-within : (k : ℕ) → k < n → getD places (2 * k) 0 + getD places (2 * k + 1) 0 ≤ length items
   places-within = p .within
 
   module _ (j : ℕ) (h : j < n) where
     pub place-first : 2 * j < length places
-    place-first = omega (arith, p .few, p .room)
+    place-first = omega (arith, p .room)
 
     pub place-second : 2 * j + 1 < length places
-    place-second = omega (arith, p .few, p .room)
+    place-second = omega (arith, p .room)
 
     pub place-inside : (a b : ℕ) → a ≡ getD places (2 * j) 0 → b ≡ getD places (2 * j + 1) 0 → a + b ≤ length items
     place-inside a b e f = rw (e, f) (p .within j h)
 
-    pub place-few : j < 1024
+    pub place-few : j < itemCount
     place-few = omega (arith, p .few)
 
-    name-short : length (nameAt items places j) ≤ 4096
+    name-short : length (nameAt items places j) ≤ nameBytes
     name-short = omega (arith, part-length items (getD places (2 * j) 0) (getD places (2 * j + 1) 0) (p .within j h), p .short j h)
 
     pub place-name : (t : Text) (a b : ℕ) → a ≡ getD places (2 * j) 0 → b ≡ getD places (2 * j + 1) 0 → t ≡ partAt items a b → t ≡ nameAt items places j
     place-name t a b e f g = rw (e, f) at g
 
-    pub place-short : (t : Text) (a b : ℕ) → a ≡ getD places (2 * j) 0 → b ≡ getD places (2 * j + 1) 0 → t ≡ partAt items a b → length t ≤ 4096
+    pub place-short : (t : Text) (a b : ℕ) → a ≡ getD places (2 * j) 0 → b ≡ getD places (2 * j + 1) 0 → t ≡ partAt items a b → length t ≤ nameBytes
     place-short t a b e f g = rw (place-name t a b e f g) name-short
 
 module _ (specs : Text) (table : List ℕ) (group : ℕ) (t : TableReady specs table group) (i : ℕ) (h : i < group) where
-  pub matcher-room : 10 * i + 10 ≤ length table
+  pub matcher-room : matcherNumbers * i + matcherNumbers ≤ length table
   matcher-room = omega (arith, t .few, t .room)
 
   pub matcher-ready : (m : Matcher) → m ≡ matcherAt table i → Ready specs m
   matcher-ready m e = rw e (t .ready i h)
 
-  pub spec-few : i ≤ 256
+  pub spec-few : i ≤ specCount
   spec-few = omega (arith, t .few)
 
 -- ---- a filter
@@ -83,7 +85,7 @@ ready-within specs m r = r .matches .within
 -- the names before number j are found
 pub record NamesFound (back : Bool) (gone : Text → Bool) (s : Spec) (items : Text) (places : List ℕ) (n i : ℕ) (first : List ℕ) (start : ℕ) (hits : List ℕ) (size known j : ℕ) : Type 0 where
   pub there : j ≤ n
-  pub counted : Counted (namesBytes back gone s items places n i) size (across (pairBytes back gone s items places i) j (n - j)) j 500000
+  pub counted : Counted (namesGive back gone s items places n i) size (across (pairGives back gone s items places i) j (n - j)) j rowMost
   pub long : length hits ≡ length first
   pub noting : Noting first start (namesHits back gone s items places n i) hits known (across (pairHits back gone s items places i) j (n - j))
 
@@ -92,7 +94,7 @@ module _ (back : Bool) (gone : Text → Bool) (specs : Text) (m : Matcher) (f : 
   s = specOf specs m
 
   abbrev bytesOf : ℕ → Text
-  bytesOf = pairBytes back gone s items places i
+  bytesOf = pairGives back gone s items places i
 
   abbrev hitsOf : ℕ → List ℕ
   hitsOf = pairHits back gone s items places i
@@ -118,14 +120,14 @@ module _ (back : Bool) (gone : Text → Bool) (specs : Text) (m : Matcher) (f : 
       let e : n - 0 ≡ n = omega arith in
       record {
         there = l;
-        counted = counted-starts (across bytesOf 0 n) (across bytesOf j (n - j)) 500000 (rw e at (jump-bytes 0 j z l off)) j;
+        counted = counted-starts (across bytesOf 0 n) (across bytesOf j (n - j)) rowMost (rw e at (jump-bytes 0 j z l off)) j;
         long = refl;
         noting = noting-starts hits noted (across hitsOf 0 n) (across hitsOf j (n - j)) (rw e at (jump-hits 0 j z l off));
       }
 
   module _ (first : List ℕ) (start : ℕ) (hits : List ℕ) (size known j : ℕ) (c : NamesFound back gone (specOf specs m) items places n i first start hits size known j) where
     -- one name more
-    pub names-next : j < n → (k : ℕ) (name : Text) → k ≡ length (itemBytes back gone i j name (specOf specs m)) → (at len : ℕ) → name ≡ partAt items at len → at ≡ getD places (2 * j) 0 → len ≡ getD places (2 * j + 1) 0 → k ≤ 500000
+    pub names-next : j < n → (k : ℕ) (name : Text) → k ≡ length (itemBytes back gone i j name (specOf specs m)) → (at len : ℕ) → name ≡ partAt items at len → at ≡ getD places (2 * j) 0 → len ≡ getD places (2 * j + 1) 0 → k ≤ rowMost
         → (after : List ℕ) (next : ℕ) → Adds hits known (hitIf (length (itemBytes back gone i j name (specOf specs m))) (hitOf i (j + 1))) after next
         → (to : ℕ) → j + 1 ≤ to → to ≤ n → ((k : ℕ) → j + 1 ≤ k → k < to → passes f (nameAt items places k) ≡ false)
         → NamesFound back gone (specOf specs m) items places n i first start after (size + k) next to
@@ -133,23 +135,23 @@ module _ (back : Bool) (gone : Text → Bool) (specs : Text) (m : Matcher) (f : 
         let e : name ≡ nameAt items places j = rw (ea, el) at en in
         let text = across-next bytesOf j n h in
         let codes = across-next hitsOf j n h in
-        let more = counted-more (across bytesOf 0 n) size (across bytesOf j (n - j)) j 500000 (c .counted) (bytesOf j) (across bytesOf (j + 1) (n - (j + 1))) text k (es ∙ ap (λ (t : Text). length (itemBytes back gone i j t s)) e) ks in
+        let more = counted-more (across bytesOf 0 n) size (across bytesOf j (n - j)) j rowMost (c .counted) (bytesOf j) (across bytesOf (j + 1) (n - (j + 1))) text k (es ∙ ap (λ (t : Text). length (itemBytes back gone i j t s)) e) ks in
         let noted = noting-more first start (across hitsOf 0 n) hits known (across hitsOf j (n - j)) (c .noting) (hitsOf j) (across hitsOf (j + 1) (n - (j + 1))) codes after next (rw e at a) in
         record {
           there = w;
-          counted = counted-on (across bytesOf 0 n) (size + k) (across bytesOf (j + 1) (n - (j + 1))) (j + 1) 500000 more (across bytesOf to (n - to)) (jump-bytes (j + 1) to l w off) to (omega arith);
+          counted = counted-on (across bytesOf 0 n) (size + k) (across bytesOf (j + 1) (n - (j + 1))) (j + 1) rowMost more (across bytesOf to (n - to)) (jump-bytes (j + 1) to l w off) to (omega arith);
           long = a .long ∙ c .long;
           noting = noting-on first start (across hitsOf 0 n) after next (across hitsOf (j + 1) (n - (j + 1))) noted (across hitsOf to (n - to)) (jump-hits (j + 1) to l w off);
         }
 
-    pub names-fit : j < n → (k : ℕ) → k ≤ 500000 → Fits w64 (size + k)
+    pub names-fit : j < n → (k : ℕ) → k ≤ rowMost → Fits w64 (size + k)
     names-fit h k b = omega (arith, c .counted .small, p .few)
 
-    pub names-small : size ≤ 512000000
+    pub names-small : size ≤ specMost
     names-small = omega (arith, c .counted .small, c .there, p .few)
 
-    pub names-measured : n ≤ j → size ≡ length (namesBytes back gone (specOf specs m) items places n i)
-    names-measured h = counted-whole (across bytesOf 0 n) size (across bytesOf j (n - j)) j 500000 (c .counted) (across-none bytesOf j n h)
+    pub names-measured : n ≤ j → size ≡ length (namesGive back gone (specOf specs m) items places n i)
+    names-measured h = counted-whole (across bytesOf 0 n) size (across bytesOf j (n - j)) j rowMost (c .counted) (across-none bytesOf j n h)
 
     pub names-noted : n ≤ j → Adds first start (namesHits back gone (specOf specs m) items places n i) hits known
     names-noted h = noting-done first start (across hitsOf 0 n) hits known (across hitsOf j (n - j)) (c .noting) (across-none hitsOf j n h)
@@ -159,7 +161,7 @@ module _ (back : Bool) (gone : Text → Bool) (specs : Text) (m : Matcher) (f : 
     all-stopped : NamesFound back gone (specOf specs m) items places n i hits noted hits 0 noted n
     all-stopped = names-begin hits noted n (omega arith) (omega arith) (λ k a b. none-passes f empty (nameAt items places k))
 
-    pub stopped-measured : 0 ≡ length (namesBytes back gone (specOf specs m) items places n i)
+    pub stopped-measured : 0 ≡ length (namesGive back gone (specOf specs m) items places n i)
     stopped-measured = names-measured hits noted hits 0 noted n all-stopped (omega arith)
 
     pub stopped-noted : Adds hits noted (namesHits back gone (specOf specs m) items places n i) hits noted
@@ -168,7 +170,7 @@ module _ (back : Bool) (gone : Text → Bool) (specs : Text) (m : Matcher) (f : 
 -- ---- one spec of a table
 
 module _ (back : Bool) (gone : Text → Bool) (specs : Text) (table : List ℕ) (items : Text) (places : List ℕ) (n i : ℕ) (m : Matcher) (e : m ≡ matcherAt table i) where
-  pub spec-measured : (k : ℕ) → k ≡ length (namesBytes back gone (specOf specs m) items places n i) → k ≡ length (specBytes back gone specs table items places n i)
+  pub spec-measured : (k : ℕ) → k ≡ length (namesGive back gone (specOf specs m) items places n i) → k ≡ length (specGives back gone specs table items places n i)
   spec-measured k h = rw e at h
 
   pub spec-noted : (hits : List ℕ) (count : ℕ) (after : List ℕ) (next : ℕ) → Adds hits count (namesHits back gone (specOf specs m) items places n i) after next → Adds hits count (specHits back gone specs table items places n i) after next
@@ -214,17 +216,17 @@ module _ (text : ℕ → Text) (codes : ℕ → List ℕ) (group b : ℕ) where
     row-long = c .long
 
 -- how much all of them take
-module _ (text : ℕ → Text) (codes : ℕ → List ℕ) (group : ℕ) (few : group ≤ 256) (first hits : List ℕ) (size noted i : ℕ) where
-  pub specs-fit : RowFound text codes group 512000000 first hits size noted i → (k : ℕ) → k ≤ 512000000 → Fits w64 (size + k)
+module _ (text : ℕ → Text) (codes : ℕ → List ℕ) (group : ℕ) (few : group ≤ specCount) (first hits : List ℕ) (size noted i : ℕ) where
+  pub specs-fit : RowFound text codes group specMost first hits size noted i → (k : ℕ) → k ≤ specMost → Fits w64 (size + k)
   specs-fit c k h = omega (arith, c .counted .small, c .there)
 
-  pub specs-small : RowFound text codes group 512000000 first hits size noted i → size ≤ 131072000000
+  pub specs-small : RowFound text codes group specMost first hits size noted i → size ≤ groupMost
   specs-small c = omega (arith, c .counted .small, c .there)
 
-  pub objects-fit : RowFound text codes group 500000 first hits size noted i → (k : ℕ) → k ≤ 500000 → Fits w64 (size + k)
+  pub objects-fit : RowFound text codes group rowMost first hits size noted i → (k : ℕ) → k ≤ rowMost → Fits w64 (size + k)
   objects-fit c k h = omega (arith, c .counted .small, c .there)
 
-  pub objects-small : RowFound text codes group 500000 first hits size noted i → size ≤ 128000000
+  pub objects-small : RowFound text codes group rowMost first hits size noted i → size ≤ objectsMost
   objects-small c = omega (arith, c .counted .small, c .there)
 
 -- ---- one spec as an object source
@@ -233,12 +235,12 @@ module _ (specs : Text) (table : List ℕ) (i : ℕ) (m : Matcher) (e : m ≡ ma
   pub object-measured : (k : ℕ) → k ≡ length (objectBytes i (specOf specs m)) → k ≡ length (objectBytes i (specAt specs table i))
   object-measured k h = rw e at h
 
-  pub object-noted : (k : ℕ) → k ≡ length (objectBytes i (specOf specs m)) → (hits : List ℕ) (count : ℕ) (after : List ℕ) (next : ℕ) → Adds hits count (hitIf k (2048 * i)) after next
+  pub object-noted : (k : ℕ) → k ≡ length (objectBytes i (specOf specs m)) → (hits : List ℕ) (count : ℕ) (after : List ℕ) (next : ℕ) → Adds hits count (hitIf k (hitStride * i)) after next
       → Adds hits count (hitIf (length (objectBytes i (specAt specs table i))) (hitOf i 0)) after next
   object-noted k h hits count after next a =
-      let z : 2048 * i ≡ hitOf i 0 = omega arith in
+      let z : hitStride * i ≡ hitOf i 0 = omega arith in
       let l : k ≡ length (objectBytes i (specAt specs table i)) = object-measured k h in
       rw (z, l) at a
 
-pub object-hit : (specs : Text) (table : List ℕ) (group : ℕ) → TableReady specs table group → (i : ℕ) → i < group → 2048 * i ≤ 1000000
+pub object-hit : (specs : Text) (table : List ℕ) (group : ℕ) → TableReady specs table group → (i : ℕ) → i < group → hitStride * i ≤ hitMost
 object-hit specs table group t i h = omega (arith, t .few)

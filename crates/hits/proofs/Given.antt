@@ -10,11 +10,12 @@ use lib.Dec.{eqb}
 use lib.ListN.{length, getD, take, length-take}
 use lib.Seq.{getD-take}
 use Rattle.meaning.specs.Bytes.{Text, each}
+use Rattle.meaning.specs.Limits.{itemCount}
 use Rattle.parse.specs.Places.{partAt}
 use Rattle.filter.specs.Filters.{nameAt}
 use Rattle.pair.specs.Pairs.{objectBytes}
 use Rattle.pair.proofs.Fields.{pair-stands, object-stands}
-use Rattle.hits.specs.Hits.{across, specAt, pairBytes, specBytes, groupBytes, objectsBytes, hitOf, hitIf, pairHits, specHits, groupHits, objectHits, hitBytes}
+use Rattle.hits.specs.Hits.{across, specAt, pairGives, specGives, groupGives, objectsGive, hitStride, hitOf, hitIf, pairHits, specHits, groupHits, objectHits, hitBytes}
 use Rattle.hits.specs.Noting.{Good, AllGood}
 use Rattle.hits.proofs.Across.{across-few}
 
@@ -71,13 +72,13 @@ module _ (f : ℕ → Text) (good : ℕ → Type 0) where
           one g (suc k) l = absurd (omega arith)
 
 -- a hit tells its spec and its item field
-hit-spec : (i field : ℕ) → field ≤ 1024 → hitOf i field / 2048 ≡ i
+hit-spec : (i field : ℕ) → field ≤ itemCount → hitOf i field / hitStride ≡ i
 hit-spec i field h = omega arith
 
-hit-field : (i field : ℕ) → field ≤ 1024 → hitOf i field % 2048 ≡ field
+hit-field : (i field : ℕ) → field ≤ itemCount → hitOf i field % hitStride ≡ field
 hit-field i field h = omega arith
 
-module _ (back : Bool) (specs : Text) (table : List ℕ) (group : ℕ) (items : Text) (places : List ℕ) (n : ℕ) (few : n ≤ 1024) where
+module _ (back : Bool) (specs : Text) (table : List ℕ) (group : ℕ) (items : Text) (places : List ℕ) (n : ℕ) (few : n ≤ itemCount) where
   abbrev f : ℕ → Text
   f = hitBytes back specs table items places
 
@@ -85,16 +86,16 @@ module _ (back : Bool) (specs : Text) (table : List ℕ) (group : ℕ) (items : 
   good = Good back specs table group items places n
 
   -- a name under a spec
-  pair-gives : (gone : Text → Bool) (i j : ℕ) → i < group → j < n → Gives f good (pairHits back gone (specAt specs table i) items places i j) (pairBytes back gone (specAt specs table i) items places i j)
-  pair-gives gone i j hi hj = gives-if f good (pairBytes back gone (specAt specs table i) items places i j) (hitOf i (j + 1)) here
+  pair-gives : (gone : Text → Bool) (i j : ℕ) → i < group → j < n → Gives f good (pairHits back gone (specAt specs table i) items places i j) (pairGives back gone (specAt specs table i) items places i j)
+  pair-gives gone i j hi hj = gives-if f good (pairGives back gone (specAt specs table i) items places i j) (hitOf i (j + 1)) here
     where
-      field : j + 1 ≤ 1024
+      field : j + 1 ≤ itemCount
       field = omega arith
 
-      text : 0 < length (pairBytes back gone (specAt specs table i) items places i j) → f (hitOf i (j + 1)) ≡ pairBytes back gone (specAt specs table i) items places i j
+      text : 0 < length (pairGives back gone (specAt specs table i) items places i j) → f (hitOf i (j + 1)) ≡ pairGives back gone (specAt specs table i) items places i j
       text p = rw (hit-spec i (j + 1) field, hit-field i (j + 1) field, add-one j) (sym (pair-stands back gone i j (nameAt items places j) (specAt specs table i) p))
 
-      here : 0 < length (pairBytes back gone (specAt specs table i) items places i j) → (f (hitOf i (j + 1)) ≡ pairBytes back gone (specAt specs table i) items places i j) × good (hitOf i (j + 1))
+      here : 0 < length (pairGives back gone (specAt specs table i) items places i j) → (f (hitOf i (j + 1)) ≡ pairGives back gone (specAt specs table i) items places i j) × good (hitOf i (j + 1))
       here p = (
         text p,
         record {
@@ -104,16 +105,16 @@ module _ (back : Bool) (specs : Text) (table : List ℕ) (group : ℕ) (items : 
         },
       )
 
-  spec-gives : (gone : Text → Bool) (i : ℕ) → i < group → Gives f good (specHits back gone specs table items places n i) (specBytes back gone specs table items places n i)
-  spec-gives gone i h = gives-across f good (pairHits back gone (specAt specs table i) items places i) (pairBytes back gone (specAt specs table i) items places i) 0 n (λ j a b. pair-gives gone i j h (omega arith))
+  spec-gives : (gone : Text → Bool) (i : ℕ) → i < group → Gives f good (specHits back gone specs table items places n i) (specGives back gone specs table items places n i)
+  spec-gives gone i h = gives-across f good (pairHits back gone (specAt specs table i) items places i) (pairGives back gone (specAt specs table i) items places i) 0 n (λ j a b. pair-gives gone i j h (omega arith))
 
-  group-gives : (gone : Text → Bool) → Gives f good (groupHits back gone specs table group items places n) (groupBytes back gone specs table group items places n)
-  group-gives gone = gives-across f good (specHits back gone specs table items places n) (specBytes back gone specs table items places n) 0 group (λ i a b. spec-gives gone i (omega arith))
+  group-gives : (gone : Text → Bool) → Gives f good (groupHits back gone specs table group items places n) (groupGives back gone specs table group items places n)
+  group-gives gone = gives-across f good (specHits back gone specs table items places n) (specGives back gone specs table items places n) 0 group (λ i a b. spec-gives gone i (omega arith))
 
-  objects-give : Gives f good (objectHits specs table group) (objectsBytes specs table group)
+  objects-give : Gives f good (objectHits specs table group) (objectsGive specs table group)
   objects-give = gives-across f good (λ i. hitIf (length (objectBytes i (specAt specs table i))) (hitOf i 0)) (λ i. objectBytes i (specAt specs table i)) 0 group (λ i a b. one i (omega arith))
     where
-      zero-small : 0 ≤ 1024
+      zero-small : 0 ≤ itemCount
       zero-small = omega arith
 
       one : (i : ℕ) → i < group → Gives f good (hitIf (length (objectBytes i (specAt specs table i))) (hitOf i 0)) (objectBytes i (specAt specs table i))
@@ -141,25 +142,25 @@ module _ (back : Bool) (specs : Text) (table : List ℕ) (group : ℕ) (items : 
 
   module _ (hits : List ℕ) (noted : ℕ) where
     -- those of all specs
-    pub group-noted-gives : (gone : Text → Bool) → take noted hits ≡ groupHits back gone specs table group items places n → noted ≤ length hits → each (take noted hits) (hitBytes back specs table items places) ≡ groupBytes back gone specs table group items places n
-    group-noted-gives gone e h = noted-give (groupHits back gone specs table group items places n) (groupBytes back gone specs table group items places n) (group-gives gone) hits noted e h
+    pub group-noted-gives : (gone : Text → Bool) → take noted hits ≡ groupHits back gone specs table group items places n → noted ≤ length hits → each (take noted hits) (hitBytes back specs table items places) ≡ groupGives back gone specs table group items places n
+    group-noted-gives gone e h = noted-give (groupHits back gone specs table group items places n) (groupGives back gone specs table group items places n) (group-gives gone) hits noted e h
 
     pub group-noted-good : (gone : Text → Bool) → take noted hits ≡ groupHits back gone specs table group items places n → noted ≤ length hits → AllGood back specs table group items places n hits noted
-    group-noted-good gone e h = noted-good (groupHits back gone specs table group items places n) (groupBytes back gone specs table group items places n) (group-gives gone) hits noted e h
+    group-noted-good gone e h = noted-good (groupHits back gone specs table group items places n) (groupGives back gone specs table group items places n) (group-gives gone) hits noted e h
 
     -- those of one spec
-    pub spec-noted-gives : (gone : Text → Bool) (i : ℕ) → i < group → take noted hits ≡ specHits back gone specs table items places n i → noted ≤ length hits → each (take noted hits) (hitBytes back specs table items places) ≡ specBytes back gone specs table items places n i
-    spec-noted-gives gone i l e h = noted-give (specHits back gone specs table items places n i) (specBytes back gone specs table items places n i) (spec-gives gone i l) hits noted e h
+    pub spec-noted-gives : (gone : Text → Bool) (i : ℕ) → i < group → take noted hits ≡ specHits back gone specs table items places n i → noted ≤ length hits → each (take noted hits) (hitBytes back specs table items places) ≡ specGives back gone specs table items places n i
+    spec-noted-gives gone i l e h = noted-give (specHits back gone specs table items places n i) (specGives back gone specs table items places n i) (spec-gives gone i l) hits noted e h
 
     pub spec-noted-good : (gone : Text → Bool) (i : ℕ) → i < group → take noted hits ≡ specHits back gone specs table items places n i → noted ≤ length hits → AllGood back specs table group items places n hits noted
-    spec-noted-good gone i l e h = noted-good (specHits back gone specs table items places n i) (specBytes back gone specs table items places n i) (spec-gives gone i l) hits noted e h
+    spec-noted-good gone i l e h = noted-good (specHits back gone specs table items places n i) (specGives back gone specs table items places n i) (spec-gives gone i l) hits noted e h
 
     -- those of object sources
-    pub objects-noted-give : take noted hits ≡ objectHits specs table group → noted ≤ length hits → each (take noted hits) (hitBytes back specs table items places) ≡ objectsBytes specs table group
-    objects-noted-give e h = noted-give (objectHits specs table group) (objectsBytes specs table group) objects-give hits noted e h
+    pub objects-noted-give : take noted hits ≡ objectHits specs table group → noted ≤ length hits → each (take noted hits) (hitBytes back specs table items places) ≡ objectsGive specs table group
+    objects-noted-give e h = noted-give (objectHits specs table group) (objectsGive specs table group) objects-give hits noted e h
 
     pub objects-noted-good : take noted hits ≡ objectHits specs table group → noted ≤ length hits → AllGood back specs table group items places n hits noted
-    objects-noted-good e h = noted-good (objectHits specs table group) (objectsBytes specs table group) objects-give hits noted e h
+    objects-noted-good e h = noted-good (objectHits specs table group) (objectsGive specs table group) objects-give hits noted e h
 
 -- ---- there is room for them
 
@@ -172,7 +173,7 @@ hit-one size hit = go (eqb size 0)
 
 -- one spec has no more hits than there are names
 pub spec-few-hits : (back : Bool) (gone : Text → Bool) (specs : Text) (table : List ℕ) (items : Text) (places : List ℕ) (n i : ℕ) → length (specHits back gone specs table items places n i) ≤ n
-spec-few-hits back gone specs table items places n i = across-few (pairHits back gone (specAt specs table i) items places i) (λ j. hit-one (length (pairBytes back gone (specAt specs table i) items places i j)) (hitOf i (j + 1))) 0 n
+spec-few-hits back gone specs table items places n i = across-few (pairHits back gone (specAt specs table i) items places i) (λ j. hit-one (length (pairGives back gone (specAt specs table i) items places i j)) (hitOf i (j + 1))) 0 n
 
 -- and there are no more object sources than specs
 pub objects-few-hits : (specs : Text) (table : List ℕ) (group : ℕ) → length (objectHits specs table group) ≤ group

@@ -8,15 +8,16 @@ use native.Mathlib.Numerals.{add-one}
 use lib.ListN.{length, getD, take, drop, length-take, drop-of-length-le}
 use lib.Seq.{drop-cons, getD-take}
 use Rattle.meaning.specs.Bytes.{Text, each}
+use Rattle.meaning.specs.Limits.{nameBytes, itemCount, specCount}
 use Rattle.meaning.specs.Spec.{Spec}
 use Rattle.buffer.proofs.Writing.{Writing, writing-starts, writing-room, writing-more, written-place, written-whole}
 use Rattle.parse.specs.Places.{partAt}
 use Rattle.parse.proofs.Parts.{part-length}
 use Rattle.matcher.specs.declared.types.Matcher.{Matcher}
-use Rattle.matchers.specs.Numbers.{matcherAt}
+use Rattle.matchers.specs.Numbers.{matcherNumbers, matcherAt}
 use Rattle.pair.specs.Pairs.{specOf, fieldBytes}
 use Rattle.pair.specs.Asking.{Ready, Put}
-use Rattle.hits.specs.Hits.{fieldStart, fieldSize, underSpec, hitBytes}
+use Rattle.hits.specs.Hits.{hitStride, fieldStart, fieldSize, underSpec, hitBytes}
 use Rattle.hits.specs.Noting.{PlacesIn, TableReady, Good, AllGood}
 
 drop-all : (l : List ℕ) (i : ℕ) → length l ≤ i → drop i l ≡ []
@@ -75,47 +76,47 @@ field-inside : (items : Text) (places : List ℕ) (n : ℕ) → PlacesIn items p
 field-inside items places n p zero h = omega arith
 field-inside items places n p (suc j) h = p .within j (omega arith)
 
-field-short : (items : Text) (places : List ℕ) (n : ℕ) → PlacesIn items places n → (field : ℕ) → field ≤ n → fieldSize places field ≤ 4096
+field-short : (items : Text) (places : List ℕ) (n : ℕ) → PlacesIn items places n → (field : ℕ) → field ≤ n → fieldSize places field ≤ nameBytes
 field-short items places n p zero h = omega arith
 field-short items places n p (suc j) h = p .short j (omega arith)
 
-module _ (back : Bool) (items : Text) (places : List ℕ) (n : ℕ) (p : PlacesIn items places n) (hit : ℕ) (there : hit % 2048 ≤ n) where
-  pub hit-field-few : hit % 2048 ≤ 1024
+module _ (back : Bool) (items : Text) (places : List ℕ) (n : ℕ) (p : PlacesIn items places n) (hit : ℕ) (there : hit % hitStride ≤ n) where
+  pub hit-field-few : hit % hitStride ≤ itemCount
   hit-field-few = omega (arith, p .few)
 
-  pub hit-places : 2048 ≤ length places
-  hit-places = p .room
+  pub hit-places : 2 * (hit % hitStride) ≤ length places
+  hit-places = omega (arith, p .room)
 
-  module _ (start size : ℕ) (es : start ≡ fieldStart places (hit % 2048)) (ez : size ≡ fieldSize places (hit % 2048)) where
+  module _ (start size : ℕ) (es : start ≡ fieldStart places (hit % hitStride)) (ez : size ≡ fieldSize places (hit % hitStride)) where
     pub hit-inside : start + size ≤ length items
-    hit-inside = rw (es, ez) (field-inside items places n p (hit % 2048) there)
+    hit-inside = rw (es, ez) (field-inside items places n p (hit % hitStride) there)
 
     module _ (name : Text) (en : name ≡ partAt items start size) where
       name-long : length name ≡ size
       name-long = ap length en ∙ part-length items start size hit-inside
 
-      pub hit-short : length name ≤ 4096
-      hit-short = omega (arith, name-long, ez, field-short items places n p (hit % 2048) there)
+      pub hit-short : length name ≤ nameBytes
+      hit-short = omega (arith, name-long, ez, field-short items places n p (hit % hitStride) there)
 
-      pub hit-empty : hit % 2048 ≡ 0 → length name ≡ 0
+      pub hit-empty : hit % hitStride ≡ 0 → length name ≡ 0
       hit-empty z = name-long ∙ ez ∙ rw z
 
       module _ (s : Spec) where
-        same : fieldBytes back (hit / 2048) (hit % 2048) name s ≡ underSpec back items places hit s
+        same : fieldBytes back (hit / hitStride) (hit % hitStride) name s ≡ underSpec back items places hit s
         same = rw (en, es, ez)
 
-        pub hit-some : 0 < length (underSpec back items places hit s) → 0 < length (fieldBytes back (hit / 2048) (hit % 2048) name s)
+        pub hit-some : 0 < length (underSpec back items places hit s) → 0 < length (fieldBytes back (hit / hitStride) (hit % hitStride) name s)
         hit-some h = rw same h
 
-        pub hit-room : (d : Text) (at : ℕ) → at + length (underSpec back items places hit s) ≤ length d → at + length (fieldBytes back (hit / 2048) (hit % 2048) name s) ≤ length d
+        pub hit-room : (d : Text) (at : ℕ) → at + length (underSpec back items places hit s) ≤ length d → at + length (fieldBytes back (hit / hitStride) (hit % hitStride) name s) ≤ length d
         hit-room d at h = rw same h
 
-        pub hit-put : (d : Text) (at : ℕ) (o : Text) (e : ℕ) → Put d at (fieldBytes back (hit / 2048) (hit % 2048) name s) o e → Put d at (underSpec back items places hit s) o e
+        pub hit-put : (d : Text) (at : ℕ) (o : Text) (e : ℕ) → Put d at (fieldBytes back (hit / hitStride) (hit % hitStride) name s) o e → Put d at (underSpec back items places hit s) o e
         hit-put d at o e q = rw same at q
 
 -- ---- where there is a hit there is a spec
 
-pub first-matcher : (back : Bool) (specs : Text) (table : List ℕ) (group : ℕ) → TableReady specs table group → (items : Text) (places : List ℕ) (n : ℕ) (hits : List ℕ) (noted : ℕ) → AllGood back specs table group items places n hits noted → (noted ≡ 0 → ⊥) → 10 * 0 + 10 ≤ length table
+pub first-matcher : (back : Bool) (specs : Text) (table : List ℕ) (group : ℕ) → TableReady specs table group → (items : Text) (places : List ℕ) (n : ℕ) (hits : List ℕ) (noted : ℕ) → AllGood back specs table group items places n hits noted → (noted ≡ 0 → ⊥) → matcherNumbers * 0 + matcherNumbers ≤ length table
 first-matcher back specs table group t items places n hits noted q z = let h : 0 < noted = omega arith in omega (arith, q .each-good 0 h .spec-there, t .room)
 
 -- ---- a turn of the loop: hit number k, of a spec whose matcher is at hand
@@ -124,18 +125,18 @@ module _ (back : Bool) (specs : Text) (table : List ℕ) (group : ℕ) (t : Tabl
   good : Good back specs table group items places n hit
   good = rw e (q .each-good k h)
 
-  pub turn-matcher : 10 * (hit / 2048) + 10 ≤ length table
+  pub turn-matcher : matcherNumbers * (hit / hitStride) + matcherNumbers ≤ length table
   turn-matcher = omega (arith, good .spec-there, t .few, t .room)
 
-  pub turn-spec : hit / 2048 ≤ 256
+  pub turn-spec : hit / hitStride ≤ specCount
   turn-spec = omega (arith, good .spec-there, t .few)
 
-  pub turn-item : hit % 2048 ≤ n
+  pub turn-item : hit % hitStride ≤ n
   turn-item = good .item-there
 
-  module _ (m : Matcher) (em : m ≡ matcherAt table (hit / 2048)) where
+  module _ (m : Matcher) (em : m ≡ matcherAt table (hit / hitStride)) where
     pub turn-ready : Ready specs m
-    turn-ready = rw em (t .ready (hit / 2048) (good .spec-there))
+    turn-ready = rw em (t .ready (hit / hitStride) (good .spec-there))
 
     own : underSpec back items places hit (specOf specs m) ≡ hitBytes back specs table items places hit
     own = rw em

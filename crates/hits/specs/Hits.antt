@@ -5,6 +5,7 @@ use mathlib.Core.List.{List, [], _∷_, _++_}
 use lib.Dec.{eqb}
 use lib.ListN.{length, getD}
 use Rattle.meaning.specs.Bytes.{Text}
+use Rattle.meaning.specs.Limits.{itemCount, specCount}
 use Rattle.meaning.specs.Spec.{Spec}
 use Rattle.parse.specs.Places.{partAt}
 use Rattle.matchers.specs.Numbers.{matcherAt}
@@ -21,28 +22,36 @@ abbrev pub specAt : Text → List ℕ → ℕ → Spec
 specAt specs table i = specOf specs (matcherAt table i)
 
 -- what name j gives under spec i, which is s, unless its source is gone
-abbrev pub pairBytes : Bool → (Text → Bool) → Spec → Text → List ℕ → ℕ → ℕ → Text
-pairBytes back gone s items places i j = itemBytes back gone i j (nameAt items places j) s
+abbrev pub pairGives : Bool → (Text → Bool) → Spec → Text → List ℕ → ℕ → ℕ → Text
+pairGives back gone s items places i j = itemBytes back gone i j (nameAt items places j) s
 
 -- what the first n names give
-abbrev pub namesBytes : Bool → (Text → Bool) → Spec → Text → List ℕ → ℕ → ℕ → Text
-namesBytes back gone s items places n i = across (pairBytes back gone s items places i) 0 n
+abbrev pub namesGive : Bool → (Text → Bool) → Spec → Text → List ℕ → ℕ → ℕ → Text
+namesGive back gone s items places n i = across (pairGives back gone s items places i) 0 n
 
 -- what they give under spec i of a table
-abbrev pub specBytes : Bool → (Text → Bool) → Text → List ℕ → Text → List ℕ → ℕ → ℕ → Text
-specBytes back gone specs table items places n i = namesBytes back gone (specAt specs table i) items places n i
+abbrev pub specGives : Bool → (Text → Bool) → Text → List ℕ → Text → List ℕ → ℕ → ℕ → Text
+specGives back gone specs table items places n i = namesGive back gone (specAt specs table i) items places n i
 
 -- what they give under the first `group` specs
-abbrev pub groupBytes : Bool → (Text → Bool) → Text → List ℕ → ℕ → Text → List ℕ → ℕ → Text
-groupBytes back gone specs table group items places n = across (specBytes back gone specs table items places n) 0 group
+abbrev pub groupGives : Bool → (Text → Bool) → Text → List ℕ → ℕ → Text → List ℕ → ℕ → Text
+groupGives back gone specs table group items places n = across (specGives back gone specs table items places n) 0 group
 
 -- what these specs give as object sources
-abbrev pub objectsBytes : Text → List ℕ → ℕ → Text
-objectsBytes specs table group = across (λ i. objectBytes i (specAt specs table i)) 0 group
+abbrev pub objectsGive : Text → List ℕ → ℕ → Text
+objectsGive specs table group = across (λ i. objectBytes i (specAt specs table i)) 0 group
+
+-- hits of one spec and of the next are so far apart: further than there are item fields
+abbrev pub hitStride : ℕ
+hitStride = 2 * itemCount
 
 -- the hit of spec i with an item field
 abbrev pub hitOf : ℕ → ℕ → ℕ
-hitOf i field = 2048 * i + field
+hitOf i field = hitStride * i + field
+
+-- no hit is above this one
+abbrev pub hitMost : ℕ
+hitMost = hitOf specCount itemCount
 
 -- a hit that takes so many bytes, unless it takes none
 abbrev pub hitIf : ℕ → ℕ → List ℕ
@@ -50,7 +59,7 @@ hitIf size hit = cond (eqb size 0) [] (hit ∷ [])
 
 -- the hit of name j under spec i, which is s
 abbrev pub pairHits : Bool → (Text → Bool) → Spec → Text → List ℕ → ℕ → ℕ → List ℕ
-pairHits back gone s items places i j = hitIf (length (pairBytes back gone s items places i j)) (hitOf i (j + 1))
+pairHits back gone s items places i j = hitIf (length (pairGives back gone s items places i j)) (hitOf i (j + 1))
 
 -- those of the first n names
 abbrev pub namesHits : Bool → (Text → Bool) → Spec → Text → List ℕ → ℕ → ℕ → List ℕ
@@ -83,8 +92,8 @@ fieldName items places field = partAt items (fieldStart places field) (fieldSize
 
 -- what a hit gives under a spec
 abbrev pub underSpec : Bool → Text → List ℕ → ℕ → Spec → Text
-underSpec back items places hit = fieldBytes back (hit / 2048) (hit % 2048) (fieldName items places (hit % 2048))
+underSpec back items places hit = fieldBytes back (hit / hitStride) (hit % hitStride) (fieldName items places (hit % hitStride))
 
 -- what it gives under its own
 abbrev pub hitBytes : Bool → Text → List ℕ → Text → List ℕ → ℕ → Text
-hitBytes back specs table items places hit = underSpec back items places hit (specAt specs table (hit / 2048))
+hitBytes back specs table items places hit = underSpec back items places hit (specAt specs table (hit / hitStride))

@@ -8,25 +8,40 @@ use lib.ListN.{length, take, getD}
 use Rattle.meaning.specs.Bytes.{Text}
 use Rattle.meaning.specs.Limits.{nameBytes, itemListBytes, itemCount, specCount}
 use Rattle.matcher.specs.declared.types.Matcher.{Matcher}
-use Rattle.matchers.specs.Numbers.{matcherAt}
+use Rattle.matchers.specs.Numbers.{matcherNumbers, matcherAt}
 use Rattle.filter.specs.declared.Filter.{Filter}
 use Rattle.filter.specs.Filters.{passes, FilterWithin}
+use Rattle.row.specs.Rows.{rowMost}
 use Rattle.pair.specs.Pairs.{specOf, endsIn}
 use Rattle.pair.specs.Asking.{Ready}
-use Rattle.hits.specs.Hits.{hitBytes}
+use Rattle.hits.specs.Hits.{hitStride, hitBytes}
+
+-- so many bytes has at most what one spec gives, what all specs give, and what they give as object sources
+abbrev pub specMost : ℕ
+specMost = itemCount * rowMost
+
+abbrev pub groupMost : ℕ
+groupMost = specCount * specMost
+
+abbrev pub objectsMost : ℕ
+objectsMost = specCount * rowMost
+
+-- a table of hits has room for at most so many: each spec as an object source, and one for each name
+abbrev pub hitRoom : ℕ
+hitRoom = specCount + itemCount
 
 -- the names of a list stand at the first n places, two numbers each
 pub record PlacesIn (items : Text) (places : List ℕ) (n : ℕ) : Type 0 where
   pub few : n ≤ itemCount
   pub small : length items ≤ itemListBytes
-  pub room : 2048 ≤ length places
+  pub room : 2 * n ≤ length places
   pub within : (j : ℕ) → j < n → getD places (2 * j) 0 + getD places (2 * j + 1) 0 ≤ length items
   pub short : (j : ℕ) → j < n → getD places (2 * j + 1) 0 ≤ nameBytes
 
 -- the first n matchers of a table are those of specs
 pub record TableReady (specs : Text) (table : List ℕ) (n : ℕ) : Type 0 where
   pub few : n ≤ specCount
-  pub room : 10 * n ≤ length table
+  pub room : matcherNumbers * n ≤ length table
   pub ready : (i : ℕ) → i < n → Ready specs (matcherAt table i)
 
 -- what a filter stops has no row under the spec of a matcher, forward or in reverse
@@ -43,8 +58,8 @@ pub record Adds (hits : List ℕ) (count : ℕ) (t after : List ℕ) (next : ℕ
 
 -- a hit is of a spec and an item field that are there, and gives something
 pub record Good (back : Bool) (specs : Text) (table : List ℕ) (group : ℕ) (items : Text) (places : List ℕ) (n hit : ℕ) : Type 0 where
-  pub spec-there : hit / 2048 < group
-  pub item-there : hit % 2048 ≤ n
+  pub spec-there : hit / hitStride < group
+  pub item-there : hit % hitStride ≤ n
   pub gives : 0 < length (hitBytes back specs table items places hit)
 
 -- so are the first `noted` of some hits

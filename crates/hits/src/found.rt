@@ -6,19 +6,24 @@ ghost use lib.ListN.{length};
 ghost use Rattle.meaning.specs.Limits.{itemListBytes, nameBytes, itemCount, specCount};
 ghost use Rattle.parse.specs.Places.{partAt};
 ghost use Rattle.exclude.specs.Negatives.{excludedBy};
+ghost use Rattle.row.specs.Rows.{rowMost};
 ghost use Rattle.pair.specs.Pairs.{specOf, itemBytes};
 ghost use Rattle.pair.specs.Asking.{Askable, Ready};
-ghost use Rattle.hits.specs.Hits.{hitOf, hitIf, namesBytes, specBytes, groupBytes, objectsBytes, namesHits, specHits, groupHits, objectHits};
-ghost use Rattle.hits.specs.Noting.{PlacesIn, TableReady, Stops, Adds};
+ghost use Rattle.hits.specs.Hits.{hitOf, hitMost, hitIf, namesGive, specGives, groupGives, objectsGive, namesHits, specHits, groupHits, objectHits};
+ghost use Rattle.hits.specs.Noting.{specMost, groupMost, objectsMost, hitRoom, PlacesIn, TableReady, Stops, Adds};
 use filter::Filter;
 use filter::forward_filter;
 use filter::next_passing;
 use filter::reverse_filter;
+use limits::ITEM_COUNT;
 use matcher::types::Matcher;
 use matchers::matcher_at;
 use pair::item_size;
 use pair::object_size;
 use sides::wide;
+
+// Hits of one spec and of the next are so far apart: further than there are item fields.
+pub(crate) const HIT_STRIDE: usize = 2 * ITEM_COUNT;
 
 // How many bytes rows take, and how many hits are noted; more than there is room for where one was not.
 pub struct Found {
@@ -37,7 +42,7 @@ pub(crate) fn part<'a>(items: &'a [u8], at: usize, n: usize) -> &'a [u8]
 
 // A hit as it is noted.
 fn narrow(hit: usize) -> u32
-    requires { ⌜ hit ≤ 1000000 ⌝ }
+    requires { ⌜ hit ≤ hitMost ⌝ }
     ensures { λ r. ⌜ r ≡ hit ⌝ }
 {
     hit as u32
@@ -56,7 +61,7 @@ fn filter_of(back: bool, specs: &[u8], m: Matcher) -> Filter
 
 // Notes a hit that takes so many bytes, unless it takes none, and answers how many are noted.
 fn note(hits: &mut [u32], count: usize, size: usize, hit: usize) -> usize
-    requires { ⌜ (length (now hits) ≤ 65536) × (hit ≤ 1000000) ⌝ }
+    requires { ⌜ (length (now hits) ≤ hitRoom) × (hit ≤ hitMost) ⌝ }
     ensures { λ r. ⌜ Adds (now (hits .entry)) count (hitIf size hit) (now (hits .exit)) r ⌝ }
 {
     if size == 0 {
@@ -82,12 +87,12 @@ fn name_found(
     hits: &mut [u32],
     noted: usize,
 ) -> Found
-    requires { ⌜ Ready (now specs) m × Askable (now specs) (now negatives) count × (i ≤ specCount) × (j < itemCount) × (length (now name) ≤ nameBytes) × (length (now hits) ≤ 65536) ⌝ }
-    ensures { λ x. ⌜ (x .size ≡ length (itemBytes back (excludedBy (now (specs .entry)) (now (negatives .entry)) count) i j (now (name .entry)) (specOf (now (specs .entry)) m))) × (x .size ≤ 500000)
+    requires { ⌜ Ready (now specs) m × Askable (now specs) (now negatives) count × (i ≤ specCount) × (j < itemCount) × (length (now name) ≤ nameBytes) × (length (now hits) ≤ hitRoom) ⌝ }
+    ensures { λ x. ⌜ (x .size ≡ length (itemBytes back (excludedBy (now (specs .entry)) (now (negatives .entry)) count) i j (now (name .entry)) (specOf (now (specs .entry)) m))) × (x .size ≤ rowMost)
         × Adds (now (hits .entry)) noted (hitIf (length (itemBytes back (excludedBy (now (specs .entry)) (now (negatives .entry)) count) i j (now (name .entry)) (specOf (now (specs .entry)) m))) (hitOf i (j + 1))) (now (hits .exit)) (x .hits) ⌝ }
 {
     let size = item_size(back, specs, m, i, j, name, negatives, count);
-    let known = note(hits, noted, size, 2048 * i + (j + 1));
+    let known = note(hits, noted, size, HIT_STRIDE * i + (j + 1));
     Found { size, hits: known }
 }
 
@@ -106,8 +111,8 @@ fn names_found(
     hits: &mut [u32],
     noted: usize,
 ) -> Found
-    requires { ⌜ Ready (now specs) m × Stops back (now specs) m f × (i ≤ specCount) × PlacesIn (now items) (now places) n × Askable (now specs) (now negatives) count × (length (now hits) ≤ 65536) ⌝ }
-    ensures { λ x. ⌜ (x .size ≡ length (namesBytes back (excludedBy (now (specs .entry)) (now (negatives .entry)) count) (specOf (now (specs .entry)) m) (now (items .entry)) (now (places .entry)) n i)) × (x .size ≤ 512000000)
+    requires { ⌜ Ready (now specs) m × Stops back (now specs) m f × (i ≤ specCount) × PlacesIn (now items) (now places) n × Askable (now specs) (now negatives) count × (length (now hits) ≤ hitRoom) ⌝ }
+    ensures { λ x. ⌜ (x .size ≡ length (namesGive back (excludedBy (now (specs .entry)) (now (negatives .entry)) count) (specOf (now (specs .entry)) m) (now (items .entry)) (now (places .entry)) n i)) × (x .size ≤ specMost)
         × Adds (now (hits .entry)) noted (namesHits back (excludedBy (now (specs .entry)) (now (negatives .entry)) count) (specOf (now (specs .entry)) m) (now (items .entry)) (now (places .entry)) n i) (now (hits .exit)) (x .hits) ⌝ }
 {
     let mut size = 0;
@@ -150,8 +155,8 @@ pub fn spec_found(
     hits: &mut [u32],
     noted: usize,
 ) -> Found
-    requires { ⌜ TableReady (now specs) (now table) group × (i < group) × PlacesIn (now items) (now places) n × Askable (now specs) (now negatives) count × (length (now hits) ≤ 65536) ⌝ }
-    ensures { λ x. ⌜ (x .size ≡ length (specBytes back (excludedBy (now (specs .entry)) (now (negatives .entry)) count) (now (specs .entry)) (now (table .entry)) (now (items .entry)) (now (places .entry)) n i)) × (x .size ≤ 512000000)
+    requires { ⌜ TableReady (now specs) (now table) group × (i < group) × PlacesIn (now items) (now places) n × Askable (now specs) (now negatives) count × (length (now hits) ≤ hitRoom) ⌝ }
+    ensures { λ x. ⌜ (x .size ≡ length (specGives back (excludedBy (now (specs .entry)) (now (negatives .entry)) count) (now (specs .entry)) (now (table .entry)) (now (items .entry)) (now (places .entry)) n i)) × (x .size ≤ specMost)
         × Adds (now (hits .entry)) noted (specHits back (excludedBy (now (specs .entry)) (now (negatives .entry)) count) (now (specs .entry)) (now (table .entry)) (now (items .entry)) (now (places .entry)) n i) (now (hits .exit)) (x .hits) ⌝ }
 {
     let m = matcher_at(table, i);
@@ -192,8 +197,8 @@ pub fn specs_found(
     count: usize,
     hits: &mut [u32],
 ) -> Found
-    requires { ⌜ TableReady (now specs) (now table) group × PlacesIn (now items) (now places) n × Askable (now specs) (now negatives) count × (length (now hits) ≤ 65536) ⌝ }
-    ensures { λ x. ⌜ (x .size ≡ length (groupBytes back (excludedBy (now (specs .entry)) (now (negatives .entry)) count) (now (specs .entry)) (now (table .entry)) group (now (items .entry)) (now (places .entry)) n)) × (x .size ≤ 131072000000)
+    requires { ⌜ TableReady (now specs) (now table) group × PlacesIn (now items) (now places) n × Askable (now specs) (now negatives) count × (length (now hits) ≤ hitRoom) ⌝ }
+    ensures { λ x. ⌜ (x .size ≡ length (groupGives back (excludedBy (now (specs .entry)) (now (negatives .entry)) count) (now (specs .entry)) (now (table .entry)) group (now (items .entry)) (now (places .entry)) n)) × (x .size ≤ groupMost)
         × Adds (now (hits .entry)) 0 (groupHits back (excludedBy (now (specs .entry)) (now (negatives .entry)) count) (now (specs .entry)) (now (table .entry)) group (now (items .entry)) (now (places .entry)) n) (now (hits .exit)) (x .hits) ⌝ }
 {
     let mut size = 0;
@@ -223,8 +228,8 @@ pub fn specs_found(
 
 // Measures and notes what all specs of a table give as object sources.
 pub fn objects_found(specs: &[u8], table: &[u16], group: usize, hits: &mut [u32]) -> Found
-    requires { ⌜ TableReady (now specs) (now table) group × (length (now hits) ≤ 65536) ⌝ }
-    ensures { λ x. ⌜ (x .size ≡ length (objectsBytes (now (specs .entry)) (now (table .entry)) group)) × (x .size ≤ 128000000)
+    requires { ⌜ TableReady (now specs) (now table) group × (length (now hits) ≤ hitRoom) ⌝ }
+    ensures { λ x. ⌜ (x .size ≡ length (objectsGive (now (specs .entry)) (now (table .entry)) group)) × (x .size ≤ objectsMost)
         × Adds (now (hits .entry)) 0 (objectHits (now (specs .entry)) (now (table .entry)) group) (now (hits .exit)) (x .hits) ⌝ }
 {
     let mut size = 0;
@@ -233,7 +238,7 @@ pub fn objects_found(specs: &[u8], table: &[u16], group: usize, hits: &mut [u32]
     while i < group {
         let m = matcher_at(table, i);
         let one = object_size(specs, m, i);
-        noted = note(hits, noted, one, 2048 * i);
+        noted = note(hits, noted, one, HIT_STRIDE * i);
         size += one;
         i += 1;
     }

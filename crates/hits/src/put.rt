@@ -1,13 +1,14 @@
 // Writing the rows of hits.
 ghost use mathlib.Core.Path.{_≡_};
-ghost use Prim.Native.Nat.{_+_, _/_, _%_, _≤_, _<_};
+ghost use Prim.Native.Nat.{_+_, _*_, _/_, _%_, _≤_, _<_};
 ghost use lib.ListN.{length, take};
 ghost use Rattle.meaning.specs.Bytes.{each};
 ghost use Rattle.meaning.specs.Limits.{specCount};
 ghost use Rattle.pair.specs.Pairs.{specOf};
 ghost use Rattle.pair.specs.Asking.{Ready, Put};
-ghost use Rattle.hits.specs.Hits.{fieldStart, fieldSize, underSpec, hitBytes};
+ghost use Rattle.hits.specs.Hits.{hitStride, fieldStart, fieldSize, underSpec, hitBytes};
 ghost use Rattle.hits.specs.Noting.{PlacesIn, TableReady, AllGood};
+use super::found::HIT_STRIDE;
 use super::found::part;
 use matcher::types::Matcher;
 use matchers::matcher_at;
@@ -23,7 +24,7 @@ fn wider(hit: u32) -> usize
 
 // Where the name of an item field begins.
 fn start_of(places: &[u16], field: usize) -> usize
-    requires { ⌜ (field ≤ 1024) × (2048 ≤ length (now places)) ⌝ }
+    requires { ⌜ 2 * field ≤ length (now places) ⌝ }
     ensures { λ r. ⌜ r ≡ fieldStart (now (places .entry)) field ⌝ }
 {
     if field == 0 {
@@ -35,7 +36,7 @@ fn start_of(places: &[u16], field: usize) -> usize
 
 // How many bytes the name of an item field has; no item has none.
 fn size_of(places: &[u16], field: usize) -> usize
-    requires { ⌜ (field ≤ 1024) × (2048 ≤ length (now places)) ⌝ }
+    requires { ⌜ 2 * field ≤ length (now places) ⌝ }
     ensures { λ r. ⌜ r ≡ fieldSize (now (places .entry)) field ⌝ }
 {
     if field == 0 {
@@ -57,11 +58,11 @@ fn put_hit(
     n: usize,
     hit: usize,
 ) -> usize
-    requires { ⌜ Ready (now specs) m × PlacesIn (now items) (now places) n × (hit / 2048 ≤ specCount) × (hit % 2048 ≤ n) × (0 < length (underSpec back (now items) (now places) hit (specOf (now specs) m)))
+    requires { ⌜ Ready (now specs) m × PlacesIn (now items) (now places) n × (hit / hitStride ≤ specCount) × (hit % hitStride ≤ n) × (0 < length (underSpec back (now items) (now places) hit (specOf (now specs) m)))
         × (at + length (underSpec back (now items) (now places) hit (specOf (now specs) m)) ≤ length (now out)) ⌝ }
     ensures { λ r. ⌜ Put (now (out .entry)) at (underSpec back (now (items .entry)) (now (places .entry)) hit (specOf (now (specs .entry)) m)) (now (out .exit)) r ⌝ }
 {
-    let field = hit % 2048;
+    let field = hit % HIT_STRIDE;
     let start = start_of(places, field);
     let size = size_of(places, field);
     put_field(
@@ -70,7 +71,7 @@ fn put_hit(
         back,
         specs,
         m,
-        hit / 2048,
+        hit / HIT_STRIDE,
         field,
         part(items, start, size),
     )
@@ -103,7 +104,7 @@ pub fn put_hits(
     let mut k = 0;
     while k < noted {
         let hit = wider(hits[k]);
-        let i = hit / 2048;
+        let i = hit / HIT_STRIDE;
         // Hits of one spec stand together, so its matcher is read once.
         if i != last {
             m = matcher_at(table, i);

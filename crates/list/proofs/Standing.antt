@@ -12,7 +12,7 @@ use lib.Dec.{leb, ltb}
 use lib.ListN.{length, getD, set, take, drop, length-set}
 use lib.Seq.{getD-set-same, getD-set-other}
 use Rattle.meaning.specs.Bytes.{Text}
-use Rattle.meaning.specs.Limits.{nameBytes}
+use Rattle.meaning.specs.Limits.{nameBytes, itemListBytes, itemCount}
 use Rattle.meaning.specs.Number as meaning
 use Rattle.meaning.specs.Spec.{accepted}
 use Rattle.meaning.specs.Lists.{itemRecord, readItems}
@@ -54,8 +54,8 @@ drop-here (y ∷ l) (suc i) x rest d e = let r = drop-here l i x rest d e in (r 
 -- it is the cursor's record, within the limits
 record Here (s : Text) (at j start len : ℕ) (next : Cursor) : Type 0 where
   step : stepAt s at ≡ Record start len next
-  few : j < 1024
-  short : len ≤ 4096
+  few : j < itemCount
+  short : len ≤ nameBytes
   inside : start + len ≤ length s
 
 item-here : (s : Text) (at j start len : ℕ) (next : Cursor) → itemAt j s at ≡ Record start len next → Here s at j start len next
@@ -67,28 +67,28 @@ item-here s at j start len next e = go (ltb at (length s)) refl e
         let w : Refused n ≡ Record start len next = rw q at f in
         absurd (let z : _≡_ {A = ℕ} 0 1 = cc in omega arith)
 
-    name : at < length s → j < 1024 → (from n : ℕ) → from + n ≤ length s → meaning.readText (drop at s) ≡ meaning.took (take n (drop from s)) (drop (from + n) s)
-        → (b : Bool) → leb (length (take n (drop from s))) 4096 ≡ b → placedStep s (itemRecord j (drop at s)) ≡ Record start len next → Here s at j start len next
-    name h l from n k g false q f = never 15 (item-long j (drop at s) l (take n (drop from s)) (drop (from + n) s) g (leb-false (length (take n (drop from s))) 4096 q)) f
+    name : at < length s → j < itemCount → (from n : ℕ) → from + n ≤ length s → meaning.readText (drop at s) ≡ meaning.took (take n (drop from s)) (drop (from + n) s)
+        → (b : Bool) → leb (length (take n (drop from s))) nameBytes ≡ b → placedStep s (itemRecord j (drop at s)) ≡ Record start len next → Here s at j start len next
+    name h l from n k g false q f = never 15 (item-long j (drop at s) l (take n (drop from s)) (drop (from + n) s) g (leb-false (length (take n (drop from s))) nameBytes q)) f
     name h l from n k g true q f =
-        let r = item-read j (drop at s) l (take n (drop from s)) (drop (from + n) s) g (leb-true (length (take n (drop from s))) 4096 q) in
+        let r = item-read j (drop at s) l (take n (drop from s)) (drop (from + n) s) g (leb-true (length (take n (drop from s))) nameBytes q) in
         let p : stepAt s at ≡ Record start len next = rw (lt-ltb at (length s) h) (ap (placedStep s) g ∙ sym (ap (placedStep s) r) ∙ f) in
         let t = step-taken s at start len next p in
         let i : start + len ≤ length s = omega (arith, t .ends, t .within) in
         let w : meaning.took (take n (drop from s)) (drop (from + n) s) ≡ meaning.took (take len (drop start s)) (drop (next .at) s) = sym g ∙ t .reads in
         let v : take n (drop from s) ≡ take len (drop start s) = cc in
-        record { step = p; few = l; short = omega (arith, leb-true (length (take n (drop from s))) 4096 q, ap length v, part-length s start len i); inside = i }
+        record { step = p; few = l; short = omega (arith, leb-true (length (take n (drop from s))) nameBytes q, ap length v, part-length s start len i); inside = i }
 
-    text : at < length s → j < 1024 → TextAt s at → placedStep s (itemRecord j (drop at s)) ≡ Record start len next → Here s at j start len next
-    text h l (stands from n o k g) f = name h l from n k g (leb (length (take n (drop from s))) 4096) refl f
+    text : at < length s → j < itemCount → TextAt s at → placedStep s (itemRecord j (drop at s)) ≡ Record start len next → Here s at j start len next
+    text h l (stands from n o k g) f = name h l from n k g (leb (length (take n (drop from s))) nameBytes) refl f
     text h l (malformed g) f = never 13 (item-malformed j (drop at s) l g) f
 
-    count : at < length s → (b : Bool) → ltb j 1024 ≡ b → placedStep s (itemRecord j (drop at s)) ≡ Record start len next → Here s at j start len next
-    count h false q f = never 14 (item-beyond j (drop at s) (ltb-false j 1024 q)) f
-    count h true q f = text h (ltb-true j 1024 q) (text-at s at) f
+    count : at < length s → (b : Bool) → ltb j itemCount ≡ b → placedStep s (itemRecord j (drop at s)) ≡ Record start len next → Here s at j start len next
+    count h false q f = never 14 (item-beyond j (drop at s) (ltb-false j itemCount q)) f
+    count h true q f = text h (ltb-true j itemCount q) (text-at s at) f
 
     go : (b : Bool) → ltb at (length s) ≡ b → cond b (placedStep s (itemRecord j (drop at s))) End ≡ Record start len next → Here s at j start len next
-    go true q f = count (ltb-true at (length s) q) (ltb j 1024) refl f
+    go true q f = count (ltb-true at (length s) q) (ltb j itemCount) refl f
     go false q f = absurd (let z : _≡_ {A = ℕ} 0 1 = cc in omega arith)
 
 -- ---- noting
@@ -124,28 +124,25 @@ module _ (places : List ℕ) (n start len : ℕ) (room : 2 * n + 1 < length plac
   else-same : (k : ℕ) → k < 2 * n → getD after k 0 ≡ getD places k 0
   else-same k h = getD-set-other (set places (2 * n) start) (2 * n + 1) k len 0 (λ e. omega arith) ∙ getD-set-other places (2 * n) k start 0 (λ e. omega arith)
 
-pub second-room : (places : List ℕ) (n start : ℕ) → n < 1024 → 2048 ≤ length places → 2 * n + 1 < length (set places (2 * n) start)
-second-room places n start h l = omega (arith, length-set places (2 * n) start)
+pub second-room : (places : List ℕ) (n start : ℕ) → 2 * n + 2 ≤ length places → 2 * n + 1 < length (set places (2 * n) start)
+second-room places n start l = omega (arith, length-set places (2 * n) start)
 
 module _ (items : Text) (at n : ℕ) (w : Step) (ew : w ≡ itemAt n items at) where
   module _ (start len : ℕ) (next : Cursor) (e : w ≡ Record start len next) where
     x : Here items at n start len next
     x = item-here items at n start len next (sym ew ∙ e)
 
-    -- a name and its place are within the limits
-    pub name-few : n < 1024
-    name-few = x .few
-
-    pub name-start : length items ≤ 65535 → start ≤ 65535
+    -- the place of a name and its size are within the limits
+    pub name-start : length items ≤ itemListBytes → start ≤ itemListBytes
     name-start h = omega (arith, x .inside)
 
-    pub name-size : len ≤ 65535
+    pub name-size : len ≤ itemListBytes
     name-size = omega (arith, x .short)
 
-    module _ (places : List ℕ) (s : Standing items places at n) (first : List ℕ) (same : length places ≡ length first) (long : 2048 ≤ length first) where
+    module _ (places : List ℕ) (s : Standing items places at n) (first : List ℕ) (same : length places ≡ length first) (long : 2 * itemCount ≤ length first) where
       -- there is room for it
-      pub places-room : 2048 ≤ length places
-      places-room = omega (arith, same)
+      pub places-room : 2 * n + 2 ≤ length places
+      places-room = omega (arith, same, x .few)
 
       pub standing-more : (new : List ℕ) → new ≡ set (set places (2 * n) start) (2 * n + 1) len → Standing items new (next .at) (n + 1)
       standing-more new q =
@@ -184,7 +181,7 @@ module _ (items : Text) (at n : ℕ) (w : Step) (ew : w ≡ itemAt n items at) w
           short-at j (inr l) = rw (else-same places n start len room (2 * j + 1) (omega arith)) (s .short j l)
 
   -- the list is read
-  module _ (places : List ℕ) (s : Standing items places at n) (first : List ℕ) (same : length places ≡ length first) (long : 2048 ≤ length first) (small : length items ≤ 65535) (p : Reading itemRecord items at n) where
+  module _ (places : List ℕ) (s : Standing items places at n) (first : List ℕ) (same : length places ≡ length first) (long : 2 * itemCount ≤ length first) (small : length items ≤ itemListBytes) (p : Reading itemRecord items at n) where
     -- the names of a list that is accepted, which are so many, stand there
     noted : (k : ℕ) → k ≤ n → Passed (readItems items) k → PlacesOf items places k
     noted k l q =
@@ -192,7 +189,7 @@ module _ (items : Text) (at n : ℕ) (w : Step) (ew : w ≡ itemAt n items at) w
           all = rw (q .answer) (q .counted);
           few = omega (arith, q .counted, names-count items (q .members) (q .answer));
           small = small;
-          room = omega (arith, same);
+          room = omega (arith, same, names-count items (q .members) (q .answer), q .counted);
           is = λ j h. rw (q .answer) (s .is (q .members) (q .answer) j (omega arith));
           within = λ j h. s .within j (omega arith);
           short = λ j h. s .short j (omega arith);
@@ -210,5 +207,5 @@ module _ (items : Text) (at n : ℕ) (w : Step) (ew : w ≡ itemAt n items at) w
     standing-stop m e = read (record { refusal = m; «record» = n; count = 0 }) (omega arith) (items-are items (record { refusal = m; «record» = n; count = 0 }) small (items-stop items at n w ew m e p))
 
 -- it is too long
-pub standing-long : (items : Text) (places : List ℕ) → 65535 < length items → PlacesRead items places places (record { refusal = 12; «record» = 0; count = 0 })
+pub standing-long : (items : Text) (places : List ℕ) → itemListBytes < length items → PlacesRead items places places (record { refusal = 12; «record» = 0; count = 0 })
 standing-long items places h = record { answer = items-too-long items h; noted = λ z. absurd (omega arith); size = refl }

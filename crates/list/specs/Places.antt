@@ -21,7 +21,7 @@ pub record PlacesOf (items : Text) (places : List ℕ) (n : ℕ) : Type 0 where
   pub all : n ≡ length (namesOf (readItems items))
   pub few : n ≤ itemCount
   pub small : length items ≤ itemListBytes
-  pub room : 2048 ≤ length places
+  pub room : 2 * n ≤ length places
   pub is : (j : ℕ) → j < n → getD (namesOf (readItems items)) j [] ≡ partAt items (getD places (2 * j) 0) (getD places (2 * j + 1) 0)
   pub within : (j : ℕ) → j < n → getD places (2 * j) 0 + getD places (2 * j + 1) 0 ≤ length items
   pub short : (j : ℕ) → j < n → getD places (2 * j + 1) 0 ≤ nameBytes

@@ -1,6 +1,6 @@
 // Reading an item list, and noting in the same pass where its names stand.
 ghost use mathlib.Core.Path.{_≡_};
-ghost use Prim.Native.Nat.{_+_, _*_, _≤_, _<_};
+ghost use Prim.Native.Nat.{_+_, _*_, _≤_};
 ghost use lib.ListN.{length, set};
 ghost use Rattle.meaning.specs.Limits.{itemListBytes, itemCount};
 ghost use Rattle.list.specs.Places.{PlacesRead};
@@ -12,7 +12,7 @@ use limits::ITEM_LIST_BYTES;
 
 // Notes where name number n begins, and how many bytes it has.
 fn put_place(places: &mut [u16], n: usize, start: usize, len: usize)
-    requires { ⌜ (n < itemCount) × (2048 ≤ length (now places)) × (start ≤ itemListBytes) × (len ≤ itemListBytes) ⌝ }
+    requires { ⌜ (2 * n + 2 ≤ length (now places)) × (start ≤ itemListBytes) × (len ≤ itemListBytes) ⌝ }
     ensures { λ _. ⌜ now (places .exit) ≡ set (set (now (places .entry)) (2 * n) start) (2 * n + 1) len ⌝ }
 {
     places[2 * n] = start as u16;
@@ -21,7 +21,7 @@ fn put_place(places: &mut [u16], n: usize, start: usize, len: usize)
 
 // The records of an item list, one after the other, each noted.
 fn each_place(list: &[u8], places: &mut [u16]) -> Checked
-    requires { ⌜ (length (now list) ≤ itemListBytes) × (2048 ≤ length (now places)) ⌝ }
+    requires { ⌜ (length (now list) ≤ itemListBytes) × (2 * itemCount ≤ length (now places)) ⌝ }
     ensures { λ r. ⌜ PlacesRead (now (list .entry)) (now (places .entry)) (now (places .exit)) r ⌝ }
 {
     let mut c = Cursor::new();
@@ -53,7 +53,7 @@ fn each_place(list: &[u8], places: &mut [u16]) -> Checked
 
 // Reads an item list, and notes where each name begins and how many bytes it has, two numbers for each.
 pub fn read_places(list: &[u8], places: &mut [u16]) -> Checked
-    requires { ⌜ 2048 ≤ length (now places) ⌝ }
+    requires { ⌜ 2 * itemCount ≤ length (now places) ⌝ }
     ensures { λ r. ⌜ PlacesRead (now (list .entry)) (now (places .entry)) (now (places .exit)) r ⌝ }
 {
     if ITEM_LIST_BYTES < list.len() {

@@ -25,7 +25,7 @@ use Rattle.matcher.specs.declared.types.Lead.the-variants as lead
 use Rattle.matcher.specs.declared.types.Made.{Made}
 use Rattle.matcher.specs.declared.types.Made.the-variants as made
 use Rattle.matcher.specs.Matching.{ledText, madeMeant, MadeWithin, FilledWithin}
-use Rattle.made.specs.Leads.{leadSize}
+use Rattle.made.specs.Leads.{leadSize, madeMost}
 
 -- ---- how many bytes
 
@@ -58,7 +58,7 @@ module _ (specs : Text) (l : Lead) (s : Side) (u : Text) (eu : u ≡ sideText sp
 
   module _ (w : Within (length specs) s) (few : length specs ≤ specListBytes) where
     -- which are not many
-    pub led-most : n + length u ≤ 200000
+    pub led-most : n + length u ≤ madeMost
     led-most = omega (arith, ap length eu, lead-short l, side-short specs s w)
 
     -- so a machine's number holds them
@@ -100,13 +100,13 @@ module _ (specs name : Text) (m : Made) where
       inside : FilledWithin (length specs) (length name) start a from b end c
       inside = made-filled-within (length specs) (length name) w
 
-      pub start-few : length specs ≤ specListBytes → a ≤ 65535
+      pub start-few : length specs ≤ specListBytes → a ≤ specListBytes
       start-few h = omega (arith, inside .start-within)
 
-      pub capture-few : length name ≤ nameBytes → b ≤ 4096
+      pub capture-few : length name ≤ nameBytes → b ≤ nameBytes
       capture-few h = omega (arith, inside .capture-within)
 
-      pub end-few : length specs ≤ specListBytes → c ≤ 65535
+      pub end-few : length specs ≤ specListBytes → c ≤ specListBytes
       end-few h = omega (arith, inside .end-within)
 
       -- it has the bytes of its three parts

@@ -9,7 +9,7 @@ ghost use Rattle.buffer.specs.Splice.{splice};
 ghost use Rattle.parse.specs.Places.{partAt, Within};
 ghost use Rattle.refspec.specs.Instructions.{sideText};
 ghost use Rattle.matcher.specs.Matching.{ledText, FilledWithin, madeMeant, MadeWithin};
-ghost use Rattle.made.specs.Leads.{leadSize};
+ghost use Rattle.made.specs.Leads.{leadSize, madeMost};
 use matcher::types::Lead;
 use matcher::types::Made;
 use parse::types::Side;
@@ -31,7 +31,7 @@ fn lead_size(lead: Lead) -> usize
 // How many bytes a side has that is led.
 fn led_size(specs: &[u8], lead: Lead, side: Side) -> usize
     requires { ⌜ Within (length (now specs)) side × (length (now specs) ≤ specListBytes) ⌝ }
-    ensures { λ r. ⌜ (r ≡ length (ledText lead (sideText (now (specs .entry)) side))) × (r ≤ 200000) ⌝ }
+    ensures { λ r. ⌜ (r ≡ length (ledText lead (sideText (now (specs .entry)) side))) × (r ≤ madeMost) ⌝ }
 {
     let t = text_of(specs, b"HEAD", side);
     lead_size(lead) + t.len()
@@ -39,8 +39,8 @@ fn led_size(specs: &[u8], lead: Lead, side: Side) -> usize
 
 // How many bytes three parts have.
 fn parts_size(a: usize, b: usize, c: usize) -> usize
-    requires { ⌜ (a ≤ 65535) × (b ≤ 4096) × (c ≤ 65535) ⌝ }
-    ensures { λ r. ⌜ (r ≡ a + (b + c)) × (r ≤ 200000) ⌝ }
+    requires { ⌜ (a ≤ specListBytes) × (b ≤ nameBytes) × (c ≤ specListBytes) ⌝ }
+    ensures { λ r. ⌜ (r ≡ a + (b + c)) × (r ≤ madeMost) ⌝ }
 {
     a + b + c
 }
@@ -48,7 +48,7 @@ fn parts_size(a: usize, b: usize, c: usize) -> usize
 // How many bytes a text has that a match makes; an absent one has none.
 pub fn made_size(specs: &[u8], name: &[u8], made: Made) -> usize
     requires { ⌜ MadeWithin (length (now specs)) (length (now name)) made × (length (now specs) ≤ specListBytes) × (length (now name) ≤ nameBytes) ⌝ }
-    ensures { λ r. ⌜ (r ≡ length (orEmpty (madeMeant (now (specs .entry)) (now (name .entry)) made))) × (r ≤ 200000) ⌝ }
+    ensures { λ r. ⌜ (r ≡ length (orEmpty (madeMeant (now (specs .entry)) (now (name .entry)) made))) × (r ≤ madeMost) ⌝ }
 {
     match made {
         Made::Absent => 0,

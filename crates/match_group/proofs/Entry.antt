@@ -22,9 +22,10 @@ use Rattle.spec_list.specs.declared.record.SpecRecord.{SpecRecord}
 use Rattle.spec_list.specs.Group.{groupMeant, GroupRead}
 use Rattle.list.proofs.Told.{Passed, items-passed, items-failed}
 use Rattle.spec_list.proofs.Told.{GroupPassed, group-passed, group-failed}
+use Rattle.matchers.specs.Numbers.{matcherNumbers}
 use Rattle.exclude.specs.Negatives.{excludedBy}
 use Rattle.pair.specs.Asking.{Askable}
-use Rattle.hits.specs.Hits.{groupBytes}
+use Rattle.hits.specs.Hits.{groupGives}
 use Rattle.hits.specs.Noting.{PlacesIn, TableReady}
 use Rattle.noted.specs.Standing.{NotedAll}
 use Rattle.noted.specs.Reading.{Grouped, TableIs}
@@ -33,16 +34,13 @@ use Rattle.match_group.specs.Listing.{rowsIn, listingBytes, listing, fir
 use Rattle.match_group.proofs.Listings.{listing-bytes}
 use Rattle.match_group.proofs.Tables.{table-ready, table-bytes, places-in}
 
-pub listing-fits : (a b : ℕ) → a ≤ 128000000 → b ≤ 131072000000 → a + b < 18446744073709551616
-listing-fits a b h k = omega arith
-
 -- how a listing meets its buffer
-module _ (back : Bool) (gone : Text → Bool) (specs : Text) (table : List ℕ) (group : ℕ) (items : Text) (places : List ℕ) (n a b : ℕ) (ea : a ≡ length (firstBytes back specs table group)) (eb : b ≡ length (groupBytes back gone specs table group items places n)) (d : Text) where
+module _ (back : Bool) (gone : Text → Bool) (specs : Text) (table : List ℕ) (group : ℕ) (items : Text) (places : List ℕ) (n a b : ℕ) (ea : a ≡ length (firstBytes back specs table group)) (eb : b ≡ length (groupGives back gone specs table group items places n)) (d : Text) where
   abbrev whole : Text
   whole = tableBytes back gone specs table group items places n
 
   size : a + b ≡ length whole
-  size = omega (arith, length-append (firstBytes back specs table group) (groupBytes back gone specs table group items places n))
+  size = omega (arith, length-append (firstBytes back specs table group) (groupGives back gone specs table group items places n))
 
   pub list-short : length d < a + b → MeetsOne (accepted (some (tableBytes back gone specs table group items places n) ∷ [])) d d 17 0 (a + b)
   list-short h = meets-short (accepted (some whole ∷ [])) d d whole 17 0 (a + b) refl (omega (arith, size)) refl refl refl size
@@ -89,7 +87,7 @@ module _ (specs : Text) (records : List SpecRecord) (n : ℕ) (r : Grouped specs
   is : TableIs specs table negatives n k group
   is = group-noted specs records n r table negatives k a
 
-  pub specs-ready : 10 * n ≤ length table → TableReady specs table n
+  pub specs-ready : matcherNumbers * n ≤ length table → TableReady specs table n
   specs-ready room = table-ready specs table negatives n k group is room
 
   pub specs-askable : Askable specs negatives k

@@ -10,7 +10,7 @@ use Rattle.meaning.specs.Rows.{Row, rowBytes, rowListOf}
 use Rattle.meaning.specs.Match.{formOf, objectSource, whole, Mapped, unmapped, mapped, mapsTo}
 use Rattle.meaning.specs.Listing.{Ends, nameRow, nameRows, groupRows, objectRow, objectRows, excludes, notExcluded, forwardRows, reverseRows}
 use Rattle.pair.specs.Pairs.{endsIn, rowUnless, itemBytes, objectBytes}
-use Rattle.match_group.specs.Listing.{eachFrom, rowsIn, itemsFrom, specBytes, listingBytes}
+use Rattle.match_group.specs.Listing.{eachFrom, rowsIn, itemsFrom, bytesOfSpec, listingBytes}
 
 module _ {A : Type 0} where
   keep-append : (test : A → Bool) (l m : List A) → keep test (l ++ m) ≡ keep test l ++ keep test m
@@ -66,8 +66,8 @@ item-kept-is reverse gone group h i s j name = go (endsIn reverse s name)
     go (some e) = rw (h (e .source)) (choice (record { item = suc j; spec = i; kind = 0; source = e .source; destination = e .destination }) (any (excludes (e .source)) group))
 
 -- the rows of one spec
-spec-kept : (reverse : Bool) (gone : Text → Bool) (group : List Spec) → Gone gone group → (names : List Text) (i : ℕ) (s : Spec) → kept (notExcluded group) (nameRows (endsIn reverse) names (i, s)) ≡ specBytes reverse gone names i s
-unfolding nameRows specBytes
+spec-kept : (reverse : Bool) (gone : Text → Bool) (group : List Spec) → Gone gone group → (names : List Text) (i : ℕ) (s : Spec) → kept (notExcluded group) (nameRows (endsIn reverse) names (i, s)) ≡ bytesOfSpec reverse gone names i s
+unfolding nameRows bytesOfSpec
 spec-kept reverse gone group h names i s = go (isNegative (s .mode))
   where
     go : (b : Bool) → kept (notExcluded group) (cond b [] (each (numbered names) (λ m. nameRow i (m .0) (endsIn reverse s (m .1))))) ≡ cond b [] (itemsFrom (itemBytes reverse gone i) 0 names s)
@@ -77,10 +77,10 @@ spec-kept reverse gone group h names i s = go (isNegative (s .mode))
         ∙ eachFrom-same (λ j name. kept (notExcluded group) (nameRow i j (endsIn reverse s name))) (λ j name. itemBytes reverse gone i j name s) (λ j name. item-kept-is reverse gone group h i s j name) 0 names
 
 -- the rows of all specs
-group-kept : (reverse : Bool) (gone : Text → Bool) (group : List Spec) → Gone gone group → (names : List Text) → kept (notExcluded group) (groupRows (endsIn reverse) group names) ≡ eachFrom (specBytes reverse gone names) 0 group
+group-kept : (reverse : Bool) (gone : Text → Bool) (group : List Spec) → Gone gone group → (names : List Text) → kept (notExcluded group) (groupRows (endsIn reverse) group names) ≡ eachFrom (bytesOfSpec reverse gone names) 0 group
 group-kept reverse gone group h names =
     kept-each (notExcluded group) (nameRows (endsIn reverse) names) 0 group
-    ∙ eachFrom-same (λ i s. kept (notExcluded group) (nameRows (endsIn reverse) names (i, s))) (specBytes reverse gone names) (spec-kept reverse gone group h names) 0 group
+    ∙ eachFrom-same (λ i s. kept (notExcluded group) (nameRows (endsIn reverse) names (i, s))) (bytesOfSpec reverse gone names) (spec-kept reverse gone group h names) 0 group
 
 -- rows of source kind 1 stay
 object-stays : (group : List Spec) (i : ℕ) (s : Spec) → kept (notExcluded group) (objectRows (i, s)) ≡ objectBytes i s

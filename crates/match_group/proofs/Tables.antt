@@ -7,6 +7,7 @@ use Prim.Native.Nat.{ℕ, zero, suc, _+_, _*_, _≤_, _<_}
 use native.Mathlib.Omega.{arith}
 use lib.ListN.{length, getD}
 use Rattle.meaning.specs.Bytes.{Text}
+use Rattle.meaning.specs.Limits.{specListBytes, specBytes}
 use Rattle.meaning.specs.Spec.{Spec, isNegative, starred}
 use Rattle.meaning.specs.Lists.{readItems}
 use Rattle.meaning.specs.Rows.{rowListOf}
@@ -15,18 +16,17 @@ use Rattle.meaning.specs.Match.{literal, pattern, afterStar, formOf, formNeedle
 use Rattle.meaning.specs.Listing.{forwardEnds, reverseEnds, objectRows}
 use Rattle.matcher.specs.declared.types.Matcher.{Matcher}
 use Rattle.matcher.specs.Matching.{Matches}
-use Rattle.matchers.specs.Numbers.{matcherAt, noMatcher}
+use Rattle.matchers.specs.Numbers.{matcherNumbers, matcherAt, noMatcher}
 use Rattle.list.specs.Places.{namesOf, PlacesOf}
 use Rattle.filter.specs.Filters.{nameAt}
 use Rattle.pair.specs.Pairs.{specOf, endsIn, itemBytes, objectBytes}
 use Rattle.pair.specs.Asking.{Ready}
-use Rattle.hits.specs.Hits as hits
-use Rattle.hits.specs.Hits.{across, specAt, pairBytes, groupBytes, objectsBytes}
+use Rattle.hits.specs.Hits.{across, specAt, pairGives, specGives, groupGives, objectsGive}
 use Rattle.hits.specs.Noting.{PlacesIn, TableReady}
 use Rattle.hits.proofs.Across.{across-same}
 use Rattle.noted.specs.Standing.{Stands}
 use Rattle.noted.specs.Reading.{TableIs}
-use Rattle.match_group.specs.Listing.{eachFrom, itemsFrom, specBytes, listingBytes, tableBytes}
+use Rattle.match_group.specs.Listing.{eachFrom, itemsFrom, bytesOfSpec, listingBytes, tableBytes}
 
 -- ---- one spec
 
@@ -90,7 +90,7 @@ negative-object s i e = rw (e, by-negative (s .source))
 
 -- ---- what stands in a table
 
-stands-ready : (specs : Text) (s : Spec) (m : Matcher) → Stands specs s m → length specs ≤ 65535 → ((t : Text) → s .source ≡ some t → length t ≤ 4096) → Ready specs m
+stands-ready : (specs : Text) (s : Spec) (m : Matcher) → Stands specs s m → length specs ≤ specListBytes → ((t : Text) → s .source ≡ some t → length t ≤ specBytes) → Ready specs m
 stands-ready specs s m st l short = go (isNegative (s .mode)) refl
   where
     none-some : (t : Text) → none ≡ some t → ⊥
@@ -141,7 +141,7 @@ across-nothing i (suc k) = across-nothing (suc i) k
 -- ---- a group in its tables
 
 module _ (specs : Text) (table negatives : List ℕ) (m count : ℕ) (group : List Spec) (t : TableIs specs table negatives m count group) where
-  pub table-ready : 10 * m ≤ length table → TableReady specs table m
+  pub table-ready : matcherNumbers * m ≤ length table → TableReady specs table m
   table-ready room =
       record {
         few = t .few;
@@ -169,19 +169,19 @@ module _ (specs : Text) (table negatives : List ℕ) (m count : ℕ) (group : Li
       by-sign true = across-nothing 0 n
       by-sign false = sym (each-numbers (λ j name. itemBytes back gone i j name s) [] names n (p .all))
 
-      spec-bytes : hits.specBytes back gone specs table items places n i ≡ specBytes back gone names i s
-      unfolding specBytes
+      spec-bytes : specGives back gone specs table items places n i ≡ bytesOfSpec back gone names i s
+      unfolding bytesOfSpec
       spec-bytes =
-          across-same (pairBytes back gone (specAt specs table i) items places i) (λ j. cond (isNegative (s .mode)) [] (itemBytes back gone i j (getD names j []) s)) 0 n
+          across-same (pairGives back gone (specAt specs table i) items places i) (λ j. cond (isNegative (s .mode)) [] (itemBytes back gone i j (getD names j []) s)) 0 n
           (λ j a b. let l : j < n = omega arith in stands-item specs s (matcherAt table i) (t .stand i h blank) back gone i j (nameAt items places j) ∙ ap (λ (name : Text). cond (isNegative (s .mode)) [] (itemBytes back gone i j name s)) (sym (p .is j l)))
           ∙ by-sign (isNegative (s .mode))
 
-    group-bytes : groupBytes back gone specs table m items places n ≡ eachFrom (specBytes back gone names) 0 group
+    group-bytes : groupGives back gone specs table m items places n ≡ eachFrom (bytesOfSpec back gone names) 0 group
     group-bytes =
-        across-same (hits.specBytes back gone specs table items places n) (λ i. specBytes back gone names i (getD group i blank)) 0 m (λ i a b. spec-bytes i (omega (arith, t .count-is)))
-        ∙ sym (each-numbers (specBytes back gone names) blank group m (t .count-is))
+        across-same (specGives back gone specs table items places n) (λ i. bytesOfSpec back gone names i (getD group i blank)) 0 m (λ i a b. spec-bytes i (omega (arith, t .count-is)))
+        ∙ sym (each-numbers (bytesOfSpec back gone names) blank group m (t .count-is))
 
-    objects-bytes : objectsBytes specs table m ≡ eachFrom objectBytes 0 group
+    objects-bytes : objectsGive specs table m ≡ eachFrom objectBytes 0 group
     objects-bytes =
         across-same (λ i. objectBytes i (specAt specs table i)) (λ i. objectBytes i (getD group i blank)) 0 m (λ i a b. stands-object specs (getD group i blank) (matcherAt table i) (t .stand i (omega (arith, t .count-is)) blank) i)
         ∙ sym (each-numbers objectBytes blank group m (t .count-is))
@@ -189,7 +189,7 @@ module _ (specs : Text) (table negatives : List ℕ) (m count : ℕ) (group : Li
     pub table-bytes : tableBytes back gone specs table m items places n ≡ listingBytes back gone group (namesOf (readItems items))
     table-bytes = go back group-bytes
       where
-        go : (back : Bool) → groupBytes back gone specs table m items places n ≡ eachFrom (specBytes back gone names) 0 group → tableBytes back gone specs table m items places n ≡ listingBytes back gone group names
+        go : (back : Bool) → groupGives back gone specs table m items places n ≡ eachFrom (bytesOfSpec back gone names) 0 group → tableBytes back gone specs table m items places n ≡ listingBytes back gone group names
         go true e = e
         go false e = rw (objects-bytes, e)
 

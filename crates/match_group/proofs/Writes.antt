@@ -10,7 +10,7 @@ use Rattle.buffer.specs.Splice.{splice}
 use Rattle.buffer.proofs.Splices.{length-splice, splice-next}
 use Rattle.buffer.proofs.Writing.{Writing, writing-starts, writing-room, writing-more, written-place, written-whole}
 use Rattle.pair.specs.Asking.{Put}
-use Rattle.hits.specs.Hits.{across, specBytes, groupBytes, objectsBytes, specHits, groupHits, objectHits, hitBytes}
+use Rattle.hits.specs.Hits.{across, specGives, groupGives, objectsGive, specHits, groupHits, objectHits, hitBytes}
 use Rattle.hits.specs.Noting.{PlacesIn, Adds, AllGood}
 use Rattle.hits.proofs.Across.{across-next, across-none}
 use Rattle.hits.proofs.Given.{group-noted-gives, group-noted-good, spec-noted-gives, spec-noted-good, objects-noted-give, objects-noted-good, spec-few-hits, objects-few-hits}
@@ -24,7 +24,7 @@ first-none back e specs table group = rw e
 pub first-no-hits : (back : Bool) → back ≡ true → (specs : Text) (table : List ℕ) (group : ℕ) (hits : List ℕ) → Noted hits 0 (firstHits back specs table group)
 first-no-hits back e specs table group hits = rw e (record { are = λ h. refl })
 
-pub first-objects : (back : Bool) → back ≡ false → (specs : Text) (table : List ℕ) (group k : ℕ) → k ≡ length (objectsBytes specs table group) → k ≡ length (firstBytes back specs table group)
+pub first-objects : (back : Bool) → back ≡ false → (specs : Text) (table : List ℕ) (group k : ℕ) → k ≡ length (objectsGive specs table group) → k ≡ length (firstBytes back specs table group)
 first-objects back e specs table group k h = rw e h
 
 -- hits that were noted from the start
@@ -66,7 +66,7 @@ module _ (back : Bool) (specs : Text) (table : List ℕ) (group : ℕ) (items : 
     a = firstBytes back specs table group
 
     abbrev b : Text
-    b = groupBytes back gone specs table group items places n
+    b = groupGives back gone specs table group items places n
 
     pub first-room : (t : Text) → t ≡ each (take noted hits) (hitBytes back specs table items places) → 0 + length t ≤ length d
     first-room t q = rw (q, gives) (omega (arith, length-append a b))
@@ -75,10 +75,10 @@ module _ (back : Bool) (specs : Text) (table : List ℕ) (group : ℕ) (items : 
       put : Put d 0 a o at
       put = rw gives at q
 
-      pub second-room : at + length (groupBytes back gone specs table group items places n) ≤ length o
+      pub second-room : at + length (groupGives back gone specs table group items places n) ≤ length o
       second-room = omega (arith, length-append a b, put .ends, ap length (put .puts), length-splice d 0 a (omega (arith, length-append a b)))
 
-      pub both-put : (o₂ : Text) (e₂ : ℕ) → Put o at (groupBytes back gone specs table group items places n) o₂ e₂ → o₂ ≡ splice d 0 (tableBytes back gone specs table group items places n)
+      pub both-put : (o₂ : Text) (e₂ : ℕ) → Put o at (groupGives back gone specs table group items places n) o₂ e₂ → o₂ ≡ splice d 0 (tableBytes back gone specs table group items places n)
       both-put o₂ e₂ r = r .puts ∙ ap (λ (q : Text). splice q at b) (put .puts) ∙ splice-next d 0 a b at (omega (arith, length-append a b)) (put .ends)
 
 -- ---- what the specs give
@@ -88,19 +88,19 @@ module _ (back : Bool) (gone : Text → Bool) (specs : Text) (table : List ℕ) 
     pub found-good : AllGood back specs table group items places n hits noted
     found-good = group-noted-good back specs table group items places n (p .few) hits noted gone (e .are h) h
 
-    gives-all : each (take noted hits) (hitBytes back specs table items places) ≡ groupBytes back gone specs table group items places n
+    gives-all : each (take noted hits) (hitBytes back specs table items places) ≡ groupGives back gone specs table group items places n
     gives-all = group-noted-gives back specs table group items places n (p .few) hits noted gone (e .are h) h
 
-    pub found-room : (d : Text) (at : ℕ) → at + length (groupBytes back gone specs table group items places n) ≤ length d → (t : Text) → t ≡ each (take noted hits) (hitBytes back specs table items places) → at + length t ≤ length d
+    pub found-room : (d : Text) (at : ℕ) → at + length (groupGives back gone specs table group items places n) ≤ length d → (t : Text) → t ≡ each (take noted hits) (hitBytes back specs table items places) → at + length t ≤ length d
     found-room d at l t q = rw (q, gives-all) l
 
-    pub found-put : (d : Text) (at : ℕ) (o : Text) (k : ℕ) → Put d at (each (take noted hits) (hitBytes back specs table items places)) o k → Put d at (groupBytes back gone specs table group items places n) o k
+    pub found-put : (d : Text) (at : ℕ) (o : Text) (k : ℕ) → Put d at (each (take noted hits) (hitBytes back specs table items places)) o k → Put d at (groupGives back gone specs table group items places n) o k
     found-put d at o k q = rw gives-all at q
 
   -- one spec
-  module _ (i : ℕ) (l : i < group) (before : List ℕ) (a : Adds before 0 (specHits back gone specs table items places n i) hits noted) (long : 1024 ≤ length before) where
+  module _ (i : ℕ) (l : i < group) (before : List ℕ) (a : Adds before 0 (specHits back gone specs table items places n i) hits noted) (long : n ≤ length before) where
     fits : noted ≤ length hits
-    fits = omega (arith, a .fits (omega (arith, spec-few-hits back gone specs table items places n i, p .few)), a .long, spec-few-hits back gone specs table items places n i, p .few)
+    fits = omega (arith, a .fits (omega (arith, spec-few-hits back gone specs table items places n i)), a .long, spec-few-hits back gone specs table items places n i)
 
     taken : take noted hits ≡ specHits back gone specs table items places n i
     taken = a .adds (omega (arith, a .long, fits))
@@ -108,36 +108,36 @@ module _ (back : Bool) (gone : Text → Bool) (specs : Text) (table : List ℕ) 
     pub spec-good : AllGood back specs table group items places n hits noted
     spec-good = spec-noted-good back specs table group items places n (p .few) hits noted gone i l taken fits
 
-    gives-spec : each (take noted hits) (hitBytes back specs table items places) ≡ specBytes back gone specs table items places n i
+    gives-spec : each (take noted hits) (hitBytes back specs table items places) ≡ specGives back gone specs table items places n i
     gives-spec = spec-noted-gives back specs table group items places n (p .few) hits noted gone i l taken fits
 
-    pub spec-room : (d : Text) (at : ℕ) → at + length (specBytes back gone specs table items places n i) ≤ length d → (t : Text) → t ≡ each (take noted hits) (hitBytes back specs table items places) → at + length t ≤ length d
+    pub spec-room : (d : Text) (at : ℕ) → at + length (specGives back gone specs table items places n i) ≤ length d → (t : Text) → t ≡ each (take noted hits) (hitBytes back specs table items places) → at + length t ≤ length d
     spec-room d at l t q = rw (q, gives-spec) l
 
-    pub spec-put : (d : Text) (at : ℕ) (o : Text) (k : ℕ) → Put d at (each (take noted hits) (hitBytes back specs table items places)) o k → Put d at (specBytes back gone specs table items places n i) o k
+    pub spec-put : (d : Text) (at : ℕ) (o : Text) (k : ℕ) → Put d at (each (take noted hits) (hitBytes back specs table items places)) o k → Put d at (specGives back gone specs table items places n i) o k
     spec-put d at o k q = rw gives-spec at q
 
 -- ---- the specs one after the other
 
 -- what the specs from number i on give is still to be written
 abbrev pub SpecsWritten : Bool → (Text → Bool) → Text → List ℕ → ℕ → Text → List ℕ → ℕ → Text → ℕ → ℕ → Text → ℕ → Type 0
-SpecsWritten back gone specs table group items places n first at i out end = Writing first at (groupBytes back gone specs table group items places n) out end (across (specBytes back gone specs table items places n) i (group - i))
+SpecsWritten back gone specs table group items places n first at i out end = Writing first at (groupGives back gone specs table group items places n) out end (across (specGives back gone specs table items places n) i (group - i))
 
 module _ (back : Bool) (gone : Text → Bool) (specs : Text) (table : List ℕ) (group : ℕ) (items : Text) (places : List ℕ) (n : ℕ) (first : Text) (at : ℕ) where
   abbrev f : ℕ → Text
-  f = specBytes back gone specs table items places n
+  f = specGives back gone specs table items places n
 
-  pub specs-begin : at + length (groupBytes back gone specs table group items places n) ≤ length first → SpecsWritten back gone specs table group items places n first at 0 first at
+  pub specs-begin : at + length (groupGives back gone specs table group items places n) ≤ length first → SpecsWritten back gone specs table group items places n first at 0 first at
   specs-begin h = let e : group - 0 ≡ group = omega arith in rw e (writing-starts first at (across f 0 group) h)
 
   module _ (i : ℕ) (out : Text) (end : ℕ) (w : SpecsWritten back gone specs table group items places n first at i out end) where
-    pub specs-room : i < group → end + length (specBytes back gone specs table items places n i) ≤ length out
+    pub specs-room : i < group → end + length (specGives back gone specs table items places n i) ≤ length out
     specs-room h = writing-room first at (across f 0 group) out end (across f i (group - i)) w (f i) (across f (i + 1) (group - (i + 1))) (across-next f i group h)
 
-    pub specs-next : i < group → (o : Text) (e : ℕ) → Put out end (specBytes back gone specs table items places n i) o e → SpecsWritten back gone specs table group items places n first at (i + 1) o e
+    pub specs-next : i < group → (o : Text) (e : ℕ) → Put out end (specGives back gone specs table items places n i) o e → SpecsWritten back gone specs table group items places n first at (i + 1) o e
     specs-next h o e q = writing-more first at (across f 0 group) out end (across f i (group - i)) w (f i) (across f (i + 1) (group - (i + 1))) (across-next f i group h) o e (q .puts) (q .ends)
 
-    pub specs-end : group ≤ i → Put first at (groupBytes back gone specs table group items places n) out end
+    pub specs-end : group ≤ i → Put first at (groupGives back gone specs table group items places n) out end
     specs-end h =
         let e = across-none f i group h in
         record { puts = written-whole first at (across f 0 group) out end (across f i (group - i)) w e; ends = written-place first at (across f 0 group) out end (across f i (group - i)) w e }

@@ -14,7 +14,11 @@ use Rattle.meaning.specs.Entries.{_andThen_, matchLhs, matchRhs}
 use Rattle.meaning.specs.Rows.{Row, rowListOf}
 use Rattle.meaning.specs.Listing.{forwardRows, reverseRows}
 use Rattle.pair.specs.Pairs.{itemBytes, objectBytes}
-use Rattle.hits.specs.Hits.{groupBytes, objectsBytes, objectHits}
+use Rattle.hits.specs.Hits.{groupGives, objectsGive, objectHits}
+
+-- how many specs are few
+abbrev pub fewSpecs : ℕ
+fewSpecs = 16
 
 -- what each member gives with its number, counting up from n
 abbrev pub eachFrom : {A B : Type 0} → (ℕ → A → List B) → ℕ → List A → List B
@@ -31,13 +35,13 @@ abbrev pub itemsFrom : (ℕ → Text → Spec → Text) → ℕ → List Text �
 itemsFrom f n names s = eachFrom (λ j name. f j name s) n names
 
 -- those of spec i, by item; a negative spec has none
-unfoldable pub specBytes : Bool → (Text → Bool) → List Text → ℕ → Spec → Text
-specBytes reverse gone names i s = cond (isNegative (s .mode)) [] (itemsFrom (itemBytes reverse gone i) 0 names s)
+unfoldable pub bytesOfSpec : Bool → (Text → Bool) → List Text → ℕ → Spec → Text
+bytesOfSpec reverse gone names i s = cond (isNegative (s .mode)) [] (itemsFrom (itemBytes reverse gone i) 0 names s)
 
 -- what the loops of a listing write: forward, the objects' rows first
 abbrev pub listingBytes : Bool → (Text → Bool) → List Spec → List Text → Text
-listingBytes true gone group names = eachFrom (specBytes true gone names) 0 group
-listingBytes false gone group names = eachFrom objectBytes 0 group ++ eachFrom (specBytes false gone names) 0 group
+listingBytes true gone group names = eachFrom (bytesOfSpec true gone names) 0 group
+listingBytes false gone group names = eachFrom objectBytes 0 group ++ eachFrom (bytesOfSpec false gone names) 0 group
 
 -- what the listing of a group answers on an item list
 abbrev pub listing : Bool → List Spec → Text → Answer Written
@@ -51,7 +55,7 @@ listed false = matchLhs
 -- what comes first in a listing of a table: forward, the objects' rows
 abbrev pub firstBytes : Bool → Text → List ℕ → ℕ → Text
 firstBytes true specs table group = []
-firstBytes false specs table group = objectsBytes specs table group
+firstBytes false specs table group = objectsGive specs table group
 
 -- and their hits
 abbrev pub firstHits : Bool → Text → List ℕ → ℕ → List ℕ
@@ -60,7 +64,7 @@ firstHits false specs table group = objectHits specs table group
 
 -- the bytes of a listing of a table and of places
 abbrev pub tableBytes : Bool → (Text → Bool) → Text → List ℕ → ℕ → Text → List ℕ → ℕ → Text
-tableBytes back gone specs table group items places n = firstBytes back specs table group ++ groupBytes back gone specs table group items places n
+tableBytes back gone specs table group items places n = firstBytes back specs table group ++ groupGives back gone specs table group items places n
 
 -- so many hits, if there was room for all, are these
 pub record Noted (hits : List ℕ) (noted : ℕ) (codes : List ℕ) : Type 0 where

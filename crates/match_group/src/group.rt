@@ -9,20 +9,21 @@ ghost use Rattle.meaning.specs.Buffers.{MeetsOne};
 ghost use Rattle.buffer.specs.Splice.{splice};
 ghost use Rattle.exclude.specs.Negatives.{excludedBy};
 ghost use Rattle.pair.specs.Asking.{Askable, Put};
-ghost use Rattle.hits.specs.Hits.{specBytes, groupBytes, groupHits};
-ghost use Rattle.hits.specs.Noting.{PlacesIn, TableReady};
+ghost use Rattle.hits.specs.Hits.{specGives, groupGives, groupHits};
+ghost use Rattle.hits.specs.Noting.{groupMost, objectsMost, hitRoom, PlacesIn, TableReady};
 ghost use Rattle.match_group.specs.Listing.{firstBytes, firstHits, tableBytes, Noted};
 use hits::found::Found;
 use hits::found::objects_found;
 use hits::found::spec_found;
 use hits::found::specs_found;
 use hits::put::put_hits;
+use limits::ITEM_COUNT;
 use write::written::Written;
 
 // Measures and notes what comes first: forward, the rows of object sources, whatever the items.
 fn first_found(back: bool, specs: &[u8], table: &[u16], group: usize, hits: &mut [u32]) -> Found
-    requires { ⌜ TableReady (now specs) (now table) group × (group ≤ length (now hits)) × (length (now hits) ≤ 65536) ⌝ }
-    ensures { λ x. ⌜ (x .size ≡ length (firstBytes back (now (specs .entry)) (now (table .entry)) group)) × (x .size ≤ 128000000)
+    requires { ⌜ TableReady (now specs) (now table) group × (group ≤ length (now hits)) × (length (now hits) ≤ hitRoom) ⌝ }
+    ensures { λ x. ⌜ (x .size ≡ length (firstBytes back (now (specs .entry)) (now (table .entry)) group)) × (x .size ≤ objectsMost)
         × Noted (now (hits .exit)) (x .hits) (firstHits back (now (specs .entry)) (now (table .entry)) group) × (x .hits ≤ length (now (hits .exit))) ⌝ }
 {
     if back {
@@ -47,9 +48,9 @@ fn put_spec(
     count: usize,
     hits: &mut [u32],
 ) -> usize
-    requires { ⌜ TableReady (now specs) (now table) group × PlacesIn (now items) (now places) n × Askable (now specs) (now negatives) count × (i < group) × (1024 ≤ length (now hits)) × (length (now hits) ≤ 65536)
-        × (at + length (specBytes back (excludedBy (now specs) (now negatives) count) (now specs) (now table) (now items) (now places) n i) ≤ length (now out)) ⌝ }
-    ensures { λ r. ⌜ Put (now (out .entry)) at (specBytes back (excludedBy (now (specs .entry)) (now (negatives .entry)) count) (now (specs .entry)) (now (table .entry)) (now (items .entry)) (now (places .entry)) n i) (now (out .exit)) r × (length (now (hits .exit)) ≡ length (now (hits .entry))) ⌝ }
+    requires { ⌜ TableReady (now specs) (now table) group × PlacesIn (now items) (now places) n × Askable (now specs) (now negatives) count × (i < group) × (n ≤ length (now hits)) × (length (now hits) ≤ hitRoom)
+        × (at + length (specGives back (excludedBy (now specs) (now negatives) count) (now specs) (now table) (now items) (now places) n i) ≤ length (now out)) ⌝ }
+    ensures { λ r. ⌜ Put (now (out .entry)) at (specGives back (excludedBy (now (specs .entry)) (now (negatives .entry)) count) (now (specs .entry)) (now (table .entry)) (now (items .entry)) (now (places .entry)) n i) (now (out .exit)) r × (length (now (hits .exit)) ≡ length (now (hits .entry))) ⌝ }
 {
     let x = spec_found(
         back,
@@ -95,9 +96,9 @@ fn put_specs(
     count: usize,
     hits: &mut [u32],
 ) -> usize
-    requires { ⌜ TableReady (now specs) (now table) group × PlacesIn (now items) (now places) n × Askable (now specs) (now negatives) count × (1024 ≤ length (now hits)) × (length (now hits) ≤ 65536)
-        × (at + length (groupBytes back (excludedBy (now specs) (now negatives) count) (now specs) (now table) group (now items) (now places) n) ≤ length (now out)) ⌝ }
-    ensures { λ r. ⌜ Put (now (out .entry)) at (groupBytes back (excludedBy (now (specs .entry)) (now (negatives .entry)) count) (now (specs .entry)) (now (table .entry)) group (now (items .entry)) (now (places .entry)) n) (now (out .exit)) r ⌝ }
+    requires { ⌜ TableReady (now specs) (now table) group × PlacesIn (now items) (now places) n × Askable (now specs) (now negatives) count × (n ≤ length (now hits)) × (length (now hits) ≤ hitRoom)
+        × (at + length (groupGives back (excludedBy (now specs) (now negatives) count) (now specs) (now table) group (now items) (now places) n) ≤ length (now out)) ⌝ }
+    ensures { λ r. ⌜ Put (now (out .entry)) at (groupGives back (excludedBy (now (specs .entry)) (now (negatives .entry)) count) (now (specs .entry)) (now (table .entry)) group (now (items .entry)) (now (places .entry)) n) (now (out .exit)) r ⌝ }
 {
     let mut end = at;
     let mut i = 0;
@@ -138,9 +139,9 @@ fn put_found(
     hits: &mut [u32],
     noted: usize,
 ) -> usize
-    requires { ⌜ TableReady (now specs) (now table) group × PlacesIn (now items) (now places) n × Askable (now specs) (now negatives) count × (1024 ≤ length (now hits)) × (length (now hits) ≤ 65536)
-        × Noted (now hits) noted (groupHits back (excludedBy (now specs) (now negatives) count) (now specs) (now table) group (now items) (now places) n) × (at + length (groupBytes back (excludedBy (now specs) (now negatives) count) (now specs) (now table) group (now items) (now places) n) ≤ length (now out)) ⌝ }
-    ensures { λ r. ⌜ Put (now (out .entry)) at (groupBytes back (excludedBy (now (specs .entry)) (now (negatives .entry)) count) (now (specs .entry)) (now (table .entry)) group (now (items .entry)) (now (places .entry)) n) (now (out .exit)) r ⌝ }
+    requires { ⌜ TableReady (now specs) (now table) group × PlacesIn (now items) (now places) n × Askable (now specs) (now negatives) count × (n ≤ length (now hits)) × (length (now hits) ≤ hitRoom)
+        × Noted (now hits) noted (groupHits back (excludedBy (now specs) (now negatives) count) (now specs) (now table) group (now items) (now places) n) × (at + length (groupGives back (excludedBy (now specs) (now negatives) count) (now specs) (now table) group (now items) (now places) n) ≤ length (now out)) ⌝ }
+    ensures { λ r. ⌜ Put (now (out .entry)) at (groupGives back (excludedBy (now (specs .entry)) (now (negatives .entry)) count) (now (specs .entry)) (now (table .entry)) group (now (items .entry)) (now (places .entry)) n) (now (out .exit)) r ⌝ }
 {
     if hits.len() < noted {
         return put_specs(
@@ -191,7 +192,7 @@ fn put_listing(
     noted: usize,
 )
     requires { ⌜ TableReady (now specs) (now table) group × PlacesIn (now items) (now places) n × Askable (now specs) (now negatives) count × Noted (now first) «noted_first» (firstHits back (now specs) (now table) group) × («noted_first» ≤ length (now first))
-        × (1024 ≤ length (now hits)) × (length (now hits) ≤ 65536) × Noted (now hits) noted (groupHits back (excludedBy (now specs) (now negatives) count) (now specs) (now table) group (now items) (now places) n)
+        × (n ≤ length (now hits)) × (length (now hits) ≤ hitRoom) × Noted (now hits) noted (groupHits back (excludedBy (now specs) (now negatives) count) (now specs) (now table) group (now items) (now places) n)
         × (length (tableBytes back (excludedBy (now specs) (now negatives) count) (now specs) (now table) group (now items) (now places) n) ≤ length (now out)) ⌝ }
     ensures { λ _. ⌜ now (out .exit) ≡ splice (now (out .entry)) 0 (tableBytes back (excludedBy (now (specs .entry)) (now (negatives .entry)) count) (now (specs .entry)) (now (table .entry)) group (now (items .entry)) (now (places .entry)) n) ⌝ }
 {
@@ -238,8 +239,8 @@ fn rows_found(
     count: usize,
     hits: &mut [u32],
 ) -> Found
-    requires { ⌜ TableReady (now specs) (now table) group × PlacesIn (now items) (now places) n × Askable (now specs) (now negatives) count × (length (now hits) ≤ 65536) ⌝ }
-    ensures { λ x. ⌜ (x .size ≡ length (groupBytes back (excludedBy (now (specs .entry)) (now (negatives .entry)) count) (now (specs .entry)) (now (table .entry)) group (now (items .entry)) (now (places .entry)) n)) × (x .size ≤ 131072000000)
+    requires { ⌜ TableReady (now specs) (now table) group × PlacesIn (now items) (now places) n × Askable (now specs) (now negatives) count × (length (now hits) ≤ hitRoom) ⌝ }
+    ensures { λ x. ⌜ (x .size ≡ length (groupGives back (excludedBy (now (specs .entry)) (now (negatives .entry)) count) (now (specs .entry)) (now (table .entry)) group (now (items .entry)) (now (places .entry)) n)) × (x .size ≤ groupMost)
         × Noted (now (hits .exit)) (x .hits) (groupHits back (excludedBy (now (specs .entry)) (now (negatives .entry)) count) (now (specs .entry)) (now (table .entry)) group (now (items .entry)) (now (places .entry)) n) × (length (now (hits .exit)) ≡ length (now (hits .entry))) ⌝ }
 {
     specs_found(
@@ -271,7 +272,7 @@ fn list_rows(
     hits: &mut [u32],
     out: &mut [u8],
 ) -> Written
-    requires { ⌜ TableReady (now specs) (now table) group × PlacesIn (now items) (now places) n × Askable (now specs) (now negatives) count × (group ≤ length (now first)) × (length (now first) ≤ 65536) × (1024 ≤ length (now hits)) × (length (now hits) ≤ 65536) ⌝ }
+    requires { ⌜ TableReady (now specs) (now table) group × PlacesIn (now items) (now places) n × Askable (now specs) (now negatives) count × (group ≤ length (now first)) × (length (now first) ≤ hitRoom) × (n ≤ length (now hits)) × (length (now hits) ≤ hitRoom) ⌝ }
     ensures { λ w. ⌜ MeetsOne (accepted (some (tableBytes back (excludedBy (now (specs .entry)) (now (negatives .entry)) count) (now (specs .entry)) (now (table .entry)) group (now (items .entry)) (now (places .entry)) n) ∷ [])) (now (out .entry)) (now (out .exit)) (w .refusal) (w .record) (w .length) ⌝ }
 {
     let objects = first_found(back, specs, table, group, first);
@@ -332,10 +333,10 @@ pub(crate) fn list_group(
     first: &mut [u32],
     out: &mut [u8],
 ) -> Written
-    requires { ⌜ TableReady (now specs) (now table) group × PlacesIn (now items) (now places) n × Askable (now specs) (now negatives) count × (group ≤ length (now first)) × (length (now first) ≤ 65536) ⌝ }
+    requires { ⌜ TableReady (now specs) (now table) group × PlacesIn (now items) (now places) n × Askable (now specs) (now negatives) count × (group ≤ length (now first)) × (length (now first) ≤ hitRoom) ⌝ }
     ensures { λ w. ⌜ MeetsOne (accepted (some (tableBytes back (excludedBy (now (specs .entry)) (now (negatives .entry)) count) (now (specs .entry)) (now (table .entry)) group (now (items .entry)) (now (places .entry)) n) ∷ [])) (now (out .entry)) (now (out .exit)) (w .refusal) (w .record) (w .length) ⌝ }
 {
-    let mut hits = [0u32; 1024];
+    let mut hits = [0u32; ITEM_COUNT];
     list_rows(
         back,
         specs,

@@ -5,14 +5,20 @@ ghost use lib.ListN.{length, take};
 ghost use Rattle.meaning.specs.Buffers.{MeetsOne};
 ghost use Rattle.meaning.specs.Entries.{matchLhs, matchRhs};
 ghost use Rattle.spec_list.specs.Group.{groupMeant};
+ghost use Rattle.matchers.specs.Numbers.{matcherNumbers};
+ghost use Rattle.exclude.specs.Negatives.{negativeNumbers};
+ghost use Rattle.hits.specs.Noting.{hitRoom};
 ghost use Rattle.noted.specs.Reading.{Grouped};
-ghost use Rattle.match_group.specs.Listing.{listing, listed};
+ghost use Rattle.match_group.specs.Listing.{fewSpecs, listing, listed};
 
 mod group;
 
+use exclude::NEGATIVE_NUMBERS;
 use group::list_group;
+use limits::ITEM_COUNT;
 use limits::SPEC_COUNT;
 use list::places::read_places;
+use matchers::MATCHER_NUMBERS;
 use noted::note_group;
 use spec_list::read_specs;
 use spec_list::record::SpecRecord;
@@ -20,6 +26,18 @@ use write::written::Written;
 
 // How many specs are few.
 const FEW: usize = 16;
+
+// The tables of a group have so many numbers, those of few specs so many.
+const TABLE: usize = MATCHER_NUMBERS * SPEC_COUNT;
+
+const NEGATIVES: usize = NEGATIVE_NUMBERS * SPEC_COUNT;
+
+const FEW_TABLE: usize = MATCHER_NUMBERS * FEW;
+
+const FEW_NEGATIVES: usize = NEGATIVE_NUMBERS * FEW;
+
+// The places of names have so many.
+const PLACES: usize = 2 * ITEM_COUNT;
 
 // A call that is refused writes nothing.
 fn refused(refusal: u64, record: u64) -> Written
@@ -44,11 +62,11 @@ fn list_in(
     first: &mut [u32],
     out: &mut [u8],
 ) -> Written
-    requires { ⌜ Grouped (now specs) records n × (10 * n ≤ length (now table)) × (4 * n ≤ length (now negatives)) × (n ≤ length (now first)) × (length (now first) ≤ 65536) ⌝ }
+    requires { ⌜ Grouped (now specs) records n × (matcherNumbers * n ≤ length (now table)) × (negativeNumbers * n ≤ length (now negatives)) × (n ≤ length (now first)) × (length (now first) ≤ hitRoom) ⌝ }
     ensures { λ w. ⌜ MeetsOne (listing back (groupMeant (now (specs .entry)) (take n records)) (now (items .entry))) (now (out .entry)) (now (out .exit)) (w .refusal) (w .record) (w .length) ⌝ }
 {
     let count = note_group(specs, records, n, table, negatives);
-    let mut places = [0u16; 2048];
+    let mut places = [0u16; PLACES];
     let c = read_places(items, &mut places);
     if c.refusal != 0 {
         return refused(c.refusal, c.record);
@@ -77,12 +95,12 @@ fn list_few(
     items: &[u8],
     out: &mut [u8],
 ) -> Written
-    requires { ⌜ Grouped (now specs) records n × (n ≤ 16) ⌝ }
+    requires { ⌜ Grouped (now specs) records n × (n ≤ fewSpecs) ⌝ }
     ensures { λ w. ⌜ MeetsOne (listing back (groupMeant (now (specs .entry)) (take n records)) (now (items .entry))) (now (out .entry)) (now (out .exit)) (w .refusal) (w .record) (w .length) ⌝ }
 {
-    let mut table = [0u16; 160];
-    let mut negatives = [0u16; 64];
-    let mut first = [0u32; 16];
+    let mut table = [0u16; FEW_TABLE];
+    let mut negatives = [0u16; FEW_NEGATIVES];
+    let mut first = [0u32; FEW];
     list_in(
         back,
         specs,
@@ -108,9 +126,9 @@ fn list_many(
     requires { ⌜ Grouped (now specs) records n ⌝ }
     ensures { λ w. ⌜ MeetsOne (listing back (groupMeant (now (specs .entry)) (take n records)) (now (items .entry))) (now (out .entry)) (now (out .exit)) (w .refusal) (w .record) (w .length) ⌝ }
 {
-    let mut table = [0u16; 2560];
-    let mut negatives = [0u16; 1024];
-    let mut first = [0u32; 256];
+    let mut table = [0u16; TABLE];
+    let mut negatives = [0u16; NEGATIVES];
+    let mut first = [0u32; SPEC_COUNT];
     list_in(
         back,
         specs,

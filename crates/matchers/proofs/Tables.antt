@@ -17,7 +17,7 @@ use Rattle.matcher.specs.declared.types.Target.{Target}
 use Rattle.matcher.specs.declared.types.Matcher.{Matcher}
 use Rattle.sides.specs.Numbers.{sideFrom, sideKind, sideAt, sideLen}
 use Rattle.sides.proofs.Told.{side-told}
-use Rattle.matchers.specs.Numbers.{needleFrom, targetFrom, matcherAt, Put, needleKind, needleStar, targetKind, targetNumber, sourceNumbers, destinationNumbers}
+use Rattle.matchers.specs.Numbers.{matcherNumbers, needleFrom, targetFrom, matcherAt, Put, needleKind, needleStar, targetKind, targetNumber, sourceNumbers, destinationNumbers}
 use Rattle.matchers.proofs.Told.{needle-told, target-told}
 
 -- ---- numbers stored one after the other
@@ -83,24 +83,24 @@ module _ (t : Text) (k : ℕ) (m : Matcher) where
   abbrev ten : Text
   ten = source ++ destination
 
-  ten-long : length ten ≡ 10
+  ten-long : length ten ≡ matcherNumbers
   unfolding sourceNumbers destinationNumbers
   ten-long = refl
 
-  module _ (h : 10 * k + 10 ≤ length t) where
-    after-is : (u v : Text) → u ≡ splice t (10 * k) source → v ≡ splice u (10 * k + 5) destination → v ≡ splice t (10 * k) ten
+  module _ (h : matcherNumbers * k + matcherNumbers ≤ length t) where
+    after-is : (u v : Text) → u ≡ splice t (matcherNumbers * k) source → v ≡ splice u (matcherNumbers * k + 5) destination → v ≡ splice t (matcherNumbers * k) ten
     after-is u v e f =
         let five = source-five (m .src) (m .lhs) in
-        f ∙ rw (e, ← five) (splice-splice t (10 * k) source destination (omega arith))
+        f ∙ rw (e, ← five) (splice-splice t (matcherNumbers * k) source destination (omega arith))
 
-    there-at : (i : ℕ) → i < 10 → getD (splice t (10 * k) ten) (10 * k + i) 0 ≡ getD ten i 0
-    there-at i l = let z = ten-long in splice-there t (10 * k) ten i (omega arith) (omega arith)
+    there-at : (i : ℕ) → i < matcherNumbers → getD (splice t (matcherNumbers * k) ten) (matcherNumbers * k + i) 0 ≡ getD ten i 0
+    there-at i l = let z = ten-long in splice-there t (matcherNumbers * k) ten i (omega arith) (omega arith)
 
-    first-at : getD (splice t (10 * k) ten) (10 * k) 0 ≡ sideKind (m .src)
+    first-at : getD (splice t (matcherNumbers * k) ten) (matcherNumbers * k) 0 ≡ sideKind (m .src)
     unfolding sourceNumbers
-    first-at = rw (add-zero (10 * k)) at (there-at 0 (omega arith))
+    first-at = rw (add-zero (matcherNumbers * k)) at (there-at 0 (omega arith))
 
-    stored-there : matcherAt (splice t (10 * k) ten) k ≡ m
+    stored-there : matcherAt (splice t (matcherNumbers * k) ten) k ≡ m
     unfolding matcherAt sourceNumbers destinationNumbers
     stored-there =
         rw (
@@ -120,18 +120,18 @@ module _ (t : Text) (k : ℕ) (m : Matcher) where
           target-told (m .rhs),
         )
 
-    stays-at : (j i : ℕ) → (j ≡ k → ⊥) → i < 10 → getD (splice t (10 * k) ten) (10 * j + i) 0 ≡ getD t (10 * j + i) 0
+    stays-at : (j i : ℕ) → (j ≡ k → ⊥) → i < matcherNumbers → getD (splice t (matcherNumbers * k) ten) (matcherNumbers * j + i) 0 ≡ getD t (matcherNumbers * j + i) 0
     stays-at j i n l = go (ltb j k) refl
       where
-        go : (b : Bool) → ltb j k ≡ b → getD (splice t (10 * k) ten) (10 * j + i) 0 ≡ getD t (10 * j + i) 0
-        go true e = let z = ten-long in let lt : j < k = ltb-true j k e in splice-before t (10 * k) ten (10 * j + i) (omega arith) (omega arith)
-        go false e = let z = ten-long in let le : k ≤ j = ltb-false j k e in let lt : k < j = omega arith in splice-after t (10 * k) ten (10 * j + i) (omega arith) (omega arith)
+        go : (b : Bool) → ltb j k ≡ b → getD (splice t (matcherNumbers * k) ten) (matcherNumbers * j + i) 0 ≡ getD t (matcherNumbers * j + i) 0
+        go true e = let z = ten-long in let lt : j < k = ltb-true j k e in splice-before t (matcherNumbers * k) ten (matcherNumbers * j + i) (omega arith) (omega arith)
+        go false e = let z = ten-long in let le : k ≤ j = ltb-false j k e in let lt : k < j = omega arith in splice-after t (matcherNumbers * k) ten (matcherNumbers * j + i) (omega arith) (omega arith)
 
-    stored-kept : (j : ℕ) → (j ≡ k → ⊥) → matcherAt (splice t (10 * k) ten) j ≡ matcherAt t j
+    stored-kept : (j : ℕ) → (j ≡ k → ⊥) → matcherAt (splice t (matcherNumbers * k) ten) j ≡ matcherAt t j
     unfolding matcherAt
     stored-kept j n =
         rw (
-          rw (add-zero (10 * j)) at (stays-at j 0 n (omega arith)),
+          rw (add-zero (matcherNumbers * j)) at (stays-at j 0 n (omega arith)),
           stays-at j 1 n (omega arith),
           stays-at j 2 n (omega arith),
           stays-at j 3 n (omega arith),
@@ -143,25 +143,25 @@ module _ (t : Text) (k : ℕ) (m : Matcher) where
           stays-at j 9 n (omega arith),
         )
 
-    stored-ten : Put t k m (splice t (10 * k) ten)
-    stored-ten = let z = ten-long in record { size = length-splice t (10 * k) ten (omega arith); kept = stored-kept; there = stored-there }
+    stored-ten : Put t k m (splice t (matcherNumbers * k) ten)
+    stored-ten = let z = ten-long in record { size = length-splice t (matcherNumbers * k) ten (omega arith); kept = stored-kept; there = stored-there }
 
   -- both fives tell the matcher, and the others stay
-  pub stored : 10 * k + 10 ≤ length t → (u v : Text) → u ≡ splice t (10 * k) source → v ≡ splice u (10 * k + 5) destination → Put t k m v
+  pub stored : matcherNumbers * k + matcherNumbers ≤ length t → (u v : Text) → u ≡ splice t (matcherNumbers * k) source → v ≡ splice u (matcherNumbers * k + 5) destination → Put t k m v
   stored h u v e f = rw (after-is h u v e f) (stored-ten h)
 
 -- the ten numbers of number k tell the matcher
 pub numbers-tell : (t : List ℕ) (k : ℕ) (s d : Side) (n : Needle) (r : Target) (x2 x3 x5 x7 x8 x10 : ℕ)
-    → s ≡ sideFrom (getD t (10 * k) 0) x2 x3
-    → n ≡ needleFrom (getD t (10 * k + 3) 0) x5
-    → d ≡ sideFrom (getD t (10 * k + 5) 0) x7 x8
-    → r ≡ targetFrom (getD t (10 * k + 8) 0) x10
-    → x2 ≡ getD t (10 * k + 1) 0
-    → x3 ≡ getD t (10 * k + 2) 0
-    → x5 ≡ getD t (10 * k + 4) 0
-    → x7 ≡ getD t (10 * k + 6) 0
-    → x8 ≡ getD t (10 * k + 7) 0
-    → x10 ≡ getD t (10 * k + 9) 0
+    → s ≡ sideFrom (getD t (matcherNumbers * k) 0) x2 x3
+    → n ≡ needleFrom (getD t (matcherNumbers * k + 3) 0) x5
+    → d ≡ sideFrom (getD t (matcherNumbers * k + 5) 0) x7 x8
+    → r ≡ targetFrom (getD t (matcherNumbers * k + 8) 0) x10
+    → x2 ≡ getD t (matcherNumbers * k + 1) 0
+    → x3 ≡ getD t (matcherNumbers * k + 2) 0
+    → x5 ≡ getD t (matcherNumbers * k + 4) 0
+    → x7 ≡ getD t (matcherNumbers * k + 6) 0
+    → x8 ≡ getD t (matcherNumbers * k + 7) 0
+    → x10 ≡ getD t (matcherNumbers * k + 9) 0
     → record { src = s; lhs = n; dst = d; rhs = r } ≡ matcherAt t k
 unfolding matcherAt
 numbers-tell t k s d n r x2 x3 x5 x7 x8 x10 a b c e e2 e3 e5 e7 e8 e10 = rw (a, b, c, e, e2, e3, e5, e7, e8, e10)

@@ -14,6 +14,10 @@ use Rattle.matcher.specs.declared.types.Target.{Target}
 use Rattle.matcher.specs.declared.types.Target.the-variants as target
 use Rattle.matcher.specs.declared.types.Matcher.{Matcher}
 
+-- how many numbers a matcher has in a table
+abbrev pub matcherNumbers : ℕ
+matcherNumbers = 10
+
 -- what two numbers tell that a source looks for
 abbrev pub needleFrom : ℕ → ℕ → Needle
 needleFrom zero star = needle.Absent
@@ -36,14 +40,14 @@ targetFrom zero n = target.Absent
 targetFrom (suc zero) n = target.Pattern n
 targetFrom (suc (suc more)) n = target.Literal (leadFrom n)
 
--- matcher number k of a table, which has ten numbers for each
+-- matcher number k of a table
 unfoldable pub matcherAt : List ℕ → ℕ → Matcher
 matcherAt t k =
     record {
-      src = sideFrom (getD t (10 * k) 0) (getD t (10 * k + 1) 0) (getD t (10 * k + 2) 0);
-      lhs = needleFrom (getD t (10 * k + 3) 0) (getD t (10 * k + 4) 0);
-      dst = sideFrom (getD t (10 * k + 5) 0) (getD t (10 * k + 6) 0) (getD t (10 * k + 7) 0);
-      rhs = targetFrom (getD t (10 * k + 8) 0) (getD t (10 * k + 9) 0);
+      src = sideFrom (getD t (matcherNumbers * k) 0) (getD t (matcherNumbers * k + 1) 0) (getD t (matcherNumbers * k + 2) 0);
+      lhs = needleFrom (getD t (matcherNumbers * k + 3) 0) (getD t (matcherNumbers * k + 4) 0);
+      dst = sideFrom (getD t (matcherNumbers * k + 5) 0) (getD t (matcherNumbers * k + 6) 0) (getD t (matcherNumbers * k + 7) 0);
+      rhs = targetFrom (getD t (matcherNumbers * k + 8) 0) (getD t (matcherNumbers * k + 9) 0);
     }
 
 -- a matcher m is put into a table as number k: the others are kept

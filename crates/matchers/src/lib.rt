@@ -8,7 +8,7 @@ ghost use Rattle.buffer.specs.Splice.{splice};
 ghost use Rattle.parse.specs.Places.{Within};
 ghost use Rattle.matcher.specs.Matching.{MatcherWithin};
 ghost use Rattle.matcher.specs.Sides.{NeedleStar, TargetStar};
-ghost use Rattle.matchers.specs.Numbers.{needleFrom, leadFrom, targetFrom, matcherAt, Put, noMatcher, needleKind, needleStar, leadKind, targetKind, targetNumber, sourceNumbers, destinationNumbers};
+ghost use Rattle.matchers.specs.Numbers.{matcherNumbers, needleFrom, leadFrom, targetFrom, matcherAt, Put, noMatcher, needleKind, needleStar, leadKind, targetKind, targetNumber, sourceNumbers, destinationNumbers};
 use matcher::types::Lead;
 use matcher::types::Matcher;
 use matcher::types::Needle;
@@ -20,6 +20,9 @@ use sides::side_from;
 use sides::side_kind;
 use sides::side_len;
 use sides::wide;
+
+// How many numbers a matcher has in a table.
+pub const MATCHER_NUMBERS: usize = 10;
 
 // Which needle it is.
 fn needle_kind(lhs: Needle) -> u16
@@ -130,10 +133,10 @@ fn put_destination(table: &mut [u16], i: usize, dst: Side, rhs: Target)
 
 // A matcher is put into a table as number k.
 pub fn put_matcher(table: &mut [u16], k: usize, m: Matcher)
-    requires { ⌜ MatcherWithin specListBytes m × (10 * k + 10 ≤ length (now table)) ⌝ }
+    requires { ⌜ MatcherWithin specListBytes m × (matcherNumbers * k + matcherNumbers ≤ length (now table)) ⌝ }
     ensures { λ r. ⌜ Put (now (table .entry)) k m (now (table .exit)) ⌝ }
 {
-    let i = 10 * k;
+    let i = MATCHER_NUMBERS * k;
     let src = m.src;
     let lhs = m.lhs;
     let dst = m.dst;
@@ -181,10 +184,10 @@ fn target_from(kind: u16, n: usize) -> Target
 
 // Matcher number k of a table.
 pub fn matcher_at(table: &[u16], k: usize) -> Matcher
-    requires { ⌜ 10 * k + 10 ≤ length (now table) ⌝ }
+    requires { ⌜ matcherNumbers * k + matcherNumbers ≤ length (now table) ⌝ }
     ensures { λ m. ⌜ m ≡ matcherAt (now (table .entry)) k ⌝ }
 {
-    let i = 10 * k;
+    let i = MATCHER_NUMBERS * k;
     let src = side_from(table[i], wide(table[i + 1]), wide(table[i + 2]));
     let lhs = needle_from(table[i + 3], wide(table[i + 4]));
     let dst = side_from(table[i + 5], wide(table[i + 6]), wide(table[i + 7]));

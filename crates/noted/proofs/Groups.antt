@@ -5,6 +5,7 @@ use Prim.Native.Nat.{ℕ, zero, suc, _≤_, _<_}
 use native.Mathlib.Omega.{arith}
 use lib.ListN.{length, take, getD, length-map}
 use Rattle.meaning.specs.Bytes.{Text, In, here, there}
+use Rattle.meaning.specs.Limits.{specListBytes}
 use Rattle.meaning.specs.Spec.{Spec}
 use Rattle.meaning.specs.Lists.{readSpecs, specRecord}
 use Rattle.promises.proofs.Members.{specs-list, group-texts}
@@ -42,8 +43,8 @@ module _ (op : ℕ) (specs : Text) (g : Group) (passed : GroupPassed specs g (re
   long : length kept ≡ g .count
   long = omega (arith, length-map kept (recordMeant specs), ap length (passed .is .means), passed .is .count-is)
 
-  specs-small : length specs ≤ 65535
-  specs-small = accepted-within 65535 (specRecord op) specs (passed .members) (specs-list op specs (passed .members) (passed .answer))
+  specs-small : length specs ≤ specListBytes
+  specs-small = accepted-within specListBytes (specRecord op) specs (passed .members) (specs-list op specs (passed .members) (passed .answer))
 
   pub group-ready : Grouped specs (g .specs) (g .count)
   group-ready =

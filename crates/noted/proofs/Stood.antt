@@ -9,6 +9,7 @@ use native.Mathlib.Omega.{arith}
 use lib.ListN.{length, take}
 use lib.Seq.{take-all}
 use Rattle.meaning.specs.Bytes.{Text}
+use Rattle.meaning.specs.Limits.{specListBytes}
 use Rattle.meaning.specs.Spec.{Spec, isNegative}
 use Rattle.parse.specs.declared.types.RefSpec.{RefSpec}
 use Rattle.parse.specs.Places.{modeMeant, specMeant, SidesWithin}
@@ -16,7 +17,7 @@ use Rattle.sides.proofs.Told.{side-wider}
 use Rattle.matcher.specs.declared.types.Matcher.{Matcher}
 use Rattle.matcher.specs.Matching.{Matches, MatcherWithin}
 use Rattle.matchers.specs.Numbers.{matcherAt, noMatcher, Put}
-use Rattle.exclude.specs.Negatives.{Negatives}
+use Rattle.exclude.specs.Negatives.{negativeNumbers, Negatives}
 use Rattle.exclude.specs.Making.{Added}
 use Rattle.exclude.proofs.Filling.{negatives-none, negatives-next}
 use Rattle.spec_list.specs.declared.record.SpecRecord.{SpecRecord}
@@ -38,11 +39,11 @@ module _ (specs : Text) (r : RefSpec) (b : Bool) (is : b ≡ isNegative (modeMea
   unfolding specMeant
   stands-positive e h = record { negative = λ p. absurd (true≢false (sym p ∙ sym is ∙ e)); positive = λ p. h }
 
-pub none-within : (m : Matcher) → m ≡ noMatcher → MatcherWithin 65535 m
+pub none-within : (m : Matcher) → m ≡ noMatcher → MatcherWithin specListBytes m
 none-within m e = rw e (record { src-within = tt; dst-within = tt; lhs-within = tt; rhs-within = tt })
 
-pub match-within : (specs : Text) (s : Spec) (m : Matcher) → Matches specs s m → length specs ≤ 65535 → MatcherWithin 65535 m
-match-within specs s m h l = matcher-more m (length specs) 65535 l (h .within)
+pub match-within : (specs : Text) (s : Spec) (m : Matcher) → Matches specs s m → length specs ≤ specListBytes → MatcherWithin specListBytes m
+match-within specs s m h l = matcher-more m (length specs) specListBytes l (h .within)
 
 -- a spec that its record tells
 module _ (specs : Text) (q : SpecRecord) (r : RefSpec) (is : r ≡ specFrom q) where
@@ -78,7 +79,7 @@ module _ (specs : Text) (records : List SpecRecord) (ready : Notable specs recor
       }
 
   module _ (table₀ table negatives₀ negatives : List ℕ) (count i : ℕ) (s : Stood specs records table₀ table negatives₀ negatives count i) where
-    pub stood-next : i < length records → 4 * length records ≤ length negatives₀ → (q : SpecRecord) → q ≡ specAt records i → (after : List ℕ) → NotedAt specs (recordMeant specs q) table i after
+    pub stood-next : i < length records → negativeNumbers * length records ≤ length negatives₀ → (q : SpecRecord) → q ≡ specAt records i → (after : List ℕ) → NotedAt specs (recordMeant specs q) table i after
         → (next : List ℕ) (n : ℕ) → Added specs (recordMeant specs q) negatives count next n → Stood specs records table₀ after negatives₀ next n (i + 1)
     stood-next h l q e after p next n a =
         record {

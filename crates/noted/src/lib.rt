@@ -1,11 +1,13 @@
 // The specs of a group noted once for all names: their matchers as flat numbers, and the negatives apart.
 ghost use Prim.Native.Nat.{_+_, _*_, _≤_};
 ghost use lib.ListN.{length, take};
-ghost use Rattle.meaning.specs.Limits.{specListBytes};
+ghost use Rattle.meaning.specs.Limits.{specListBytes, specCount};
 ghost use Rattle.parse.specs.Places.{specMeant, SidesWithin};
 ghost use Rattle.matcher.specs.Matching.{MatcherWithin};
+ghost use Rattle.matchers.specs.Numbers.{matcherNumbers};
 ghost use Rattle.spec_list.specs.Table.{specFrom};
 ghost use Rattle.spec_list.specs.Group.{recordMeant};
+ghost use Rattle.exclude.specs.Negatives.{negativeNumbers};
 ghost use Rattle.exclude.specs.Making.{Added};
 ghost use Rattle.noted.specs.Standing.{Stands, NotedAt, Notable, NotedAll};
 use exclude::put_if_negative;
@@ -41,7 +43,7 @@ pub fn note(
     negatives: &mut [u16],
     k: usize,
 ) -> usize
-    requires { ⌜ SidesWithin (length (now specs)) (specFrom q) × (length (now specs) ≤ specListBytes) × (10 * i + 10 ≤ length (now table)) × (4 * k + 4 ≤ length (now negatives)) ⌝ }
+    requires { ⌜ SidesWithin (length (now specs)) (specFrom q) × (length (now specs) ≤ specListBytes) × (matcherNumbers * i + matcherNumbers ≤ length (now table)) × (negativeNumbers * k + negativeNumbers ≤ length (now negatives)) ⌝ }
     ensures { λ n. ⌜ NotedAt (now (specs .entry)) (recordMeant (now (specs .entry)) q) (now (table .entry)) i (now (table .exit)) × Added (now (specs .entry)) (recordMeant (now (specs .entry)) q) (now (negatives .entry)) k (now (negatives .exit)) n ⌝ }
 {
     let r = spec_from(q);
@@ -56,7 +58,7 @@ fn note_specs(
     table: &mut [u16],
     negatives: &mut [u16],
 ) -> usize
-    requires { ⌜ Notable (now specs) (now records) × (10 * length (now records) ≤ length (now table)) × (4 * length (now records) ≤ length (now negatives)) ⌝ }
+    requires { ⌜ Notable (now specs) (now records) × (matcherNumbers * length (now records) ≤ length (now table)) × (negativeNumbers * length (now records) ≤ length (now negatives)) ⌝ }
     ensures { λ k. ⌜ NotedAll (now (specs .entry)) (now (records .entry)) (now (table .exit)) (now (negatives .exit)) k ⌝ }
 {
     let mut count = 0;
@@ -77,7 +79,7 @@ pub fn note_group(
     table: &mut [u16],
     negatives: &mut [u16],
 ) -> usize
-    requires { ⌜ (n ≤ 256) × Notable (now specs) (take n records) × (10 * n ≤ length (now table)) × (4 * n ≤ length (now negatives)) ⌝ }
+    requires { ⌜ (n ≤ specCount) × Notable (now specs) (take n records) × (matcherNumbers * n ≤ length (now table)) × (negativeNumbers * n ≤ length (now negatives)) ⌝ }
     ensures { λ k. ⌜ NotedAll (now (specs .entry)) (take n records) (now (table .exit)) (now (negatives .exit)) k ⌝ }
 {
     note_specs(specs, &records[..n], table, negatives)

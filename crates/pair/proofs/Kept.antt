@@ -8,6 +8,7 @@ use native.Mathlib.Omega.{arith}
 use native.Mathlib.Numerals.{add-one}
 use lib.ListN.{length}
 use Rattle.meaning.specs.Bytes.{Text, orEmpty}
+use Rattle.meaning.specs.Limits.{nameBytes}
 use Rattle.meaning.specs.Spec.{Spec}
 use Rattle.meaning.specs.Rows.{rowBytes}
 use Rattle.meaning.specs.Listing.{forwardEnds, reverseEnds}
@@ -20,7 +21,7 @@ use Rattle.matcher.specs.declared.types.Ends.the-variants.{Nothing, Row as Foun
 use Rattle.matcher.specs.Matching.{madeMeant, endsMeant, MadeWithin, EndsWithin, Matches}
 use Rattle.row.specs.Rows.{Lent, rowMeant}
 use Rattle.pair.specs.Pairs.{specOf, endsIn, itemBytes, keptBytes}
-use Rattle.pair.specs.Asking.{Ready, EndsTold}
+use Rattle.pair.specs.Asking.{sourceMost, Ready, EndsTold}
 
 -- the direction that is asked for
 module _ (specs name : Text) (m : Matcher) (back : Bool) (r : Ends) (ready : Ready specs m) (w : EndsWithin (length specs) (length name) r) where
@@ -38,7 +39,7 @@ module _ (gone : Text → Bool) (i j : ℕ) (specs name : Text) (source destinat
   pub kept-size : r ≡ false → (n : ℕ) → n ≡ length (rowBytes (rowMeant specs name (j + 1) i 0 source destination)) → n ≡ length (keptBytes gone i j specs name source destination)
   kept-size t n e = rw (sym er ∙ t, ← add-one j) e
 
-pub lent-is : (specs name : Text) (m : Matcher) → Ready specs m → length name ≤ 4096 → Lent specs name
+pub lent-is : (specs name : Text) (m : Matcher) → Ready specs m → length name ≤ nameBytes → Lent specs name
 lent-is specs name m r h = record { specs-short = r .specs-short; name-short = h }
 
 -- what an item gives under the spec of a matcher
@@ -67,9 +68,9 @@ module _ (back : Bool) (gone : Text → Bool) (specs name : Text) (m : Matcher) 
     destination-within = both .1
 
     -- the source of a row is at most as long as an accepted spec's source and a name
-    pub source-short : Ready specs m → length name ≤ 4096 → length (orEmpty (madeMeant specs name source)) ≤ 8192
+    pub source-short : Ready specs m → length name ≤ nameBytes → length (orEmpty (madeMeant specs name source)) ≤ sourceMost
     source-short r n = go back (specOf specs m) (r .short) ends-are
       where
-        go : (back : Bool) (s : Spec) → Short (s .source) → endsIn back s name ≡ some (record { source = orEmpty (madeMeant specs name source); destination = madeMeant specs name destination }) → length (orEmpty (madeMeant specs name source)) ≤ 8192
+        go : (back : Bool) (s : Spec) → Short (s .source) → endsIn back s name ≡ some (record { source = orEmpty (madeMeant specs name source); destination = madeMeant specs name destination }) → length (orEmpty (madeMeant specs name source)) ≤ sourceMost
         go true s h p = let w = reverse-made s name (record { source = orEmpty (madeMeant specs name source); destination = madeMeant specs name destination }) p in reverse-length s name (orEmpty (madeMeant specs name source)) h (w .0) n
         go false s h p = let w = forward-made s name (record { source = orEmpty (madeMeant specs name source); destination = madeMeant specs name destination }) p in omega (arith, ap length (w .0))

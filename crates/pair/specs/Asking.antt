@@ -6,19 +6,23 @@ use mathlib.Core.Option.{some}
 use mathlib.Core.List.{List}
 use lib.ListN.{length}
 use Rattle.meaning.specs.Bytes.{Text}
-use Rattle.meaning.specs.Limits.{specListBytes, specBytes}
+use Rattle.meaning.specs.Limits.{specListBytes, specBytes, nameBytes}
 use Rattle.meaning.specs.Listing as listing
 use Rattle.parse.specs.Places.{sideMeant}
 use Rattle.buffer.specs.Splice.{splice}
 use Rattle.matcher.specs.declared.types.Matcher.{Matcher}
 use Rattle.matcher.specs.declared.types.Ends.{Ends}
 use Rattle.matcher.specs.Matching.{endsMeant, EndsWithin, Matches}
-use Rattle.exclude.specs.Negatives.{negativeAt, NegativeWithin}
+use Rattle.exclude.specs.Negatives.{negativeNumbers, negativeAt, NegativeWithin}
 use Rattle.pair.specs.Pairs.{specOf, endsIn, fieldEnds}
+
+-- the source of a row has at most so many bytes: an accepted spec's source and a name
+abbrev pub sourceMost : ℕ
+sourceMost = specBytes + nameBytes
 
 -- the negatives of a group can be asked
 pub record Askable (specs : Text) (negatives : List ℕ) (count : ℕ) : Type 0 where
-  pub room : 4 * count ≤ length negatives
+  pub room : negativeNumbers * count ≤ length negatives
   pub within : (k : ℕ) → k < count → NegativeWithin (length specs) (negativeAt negatives k)
 
 -- a matcher is that of the spec it stands for, whose source is no longer than an accepted one's

@@ -8,12 +8,17 @@ ghost use Rattle.parse.specs.Places.{partAt};
 ghost use Rattle.matcher.specs.Matching.{madeMeant, MadeWithin, FilledWithin};
 ghost use Rattle.exclude.specs.Negatives.{excludedBy};
 ghost use Rattle.row.specs.Rows.{Lent};
-ghost use Rattle.pair.specs.Asking.{Askable};
+ghost use Rattle.pair.specs.Asking.{sourceMost, Askable};
 use exclude::excluded;
 use exclude::excluded_pieces;
+use limits::NAME_BYTES;
+use limits::SPEC_BYTES;
 use made::made_size;
 use made::put_made;
 use matcher::types::Made;
+
+// The source of a row has at most so many bytes.
+const SOURCE_MOST: usize = SPEC_BYTES + NAME_BYTES;
 
 // A negative matches a source that is put together in `scratch`.
 fn put_removed(
@@ -34,10 +39,10 @@ fn put_removed(
 
 // A negative matches a source that stands nowhere in one piece and in no three.
 fn made_removed(specs: &[u8], name: &[u8], source: Made, negatives: &[u16], count: usize) -> bool
-    requires { ⌜ Lent (now specs) (now name) × MadeWithin (length (now specs)) (length (now name)) source × Askable (now specs) (now negatives) count × (length (orEmpty (madeMeant (now specs) (now name) source)) ≤ 8192) ⌝ }
+    requires { ⌜ Lent (now specs) (now name) × MadeWithin (length (now specs)) (length (now name)) source × Askable (now specs) (now negatives) count × (length (orEmpty (madeMeant (now specs) (now name) source)) ≤ sourceMost) ⌝ }
     ensures { λ r. ⌜ r ≡ excludedBy (now (specs .entry)) (now (negatives .entry)) count (orEmpty (madeMeant (now (specs .entry)) (now (name .entry)) source)) ⌝ }
 {
-    let mut scratch = [0; 8192];
+    let mut scratch = [0; SOURCE_MOST];
     put_removed(specs, name, source, negatives, count, &mut scratch)
 }
 
@@ -78,7 +83,7 @@ pub(crate) fn removed(
     negatives: &[u16],
     count: usize,
 ) -> bool
-    requires { ⌜ Lent (now specs) (now name) × MadeWithin (length (now specs)) (length (now name)) source × Askable (now specs) (now negatives) count × (length (orEmpty (madeMeant (now specs) (now name) source)) ≤ 8192) ⌝ }
+    requires { ⌜ Lent (now specs) (now name) × MadeWithin (length (now specs)) (length (now name)) source × Askable (now specs) (now negatives) count × (length (orEmpty (madeMeant (now specs) (now name) source)) ≤ sourceMost) ⌝ }
     ensures { λ r. ⌜ r ≡ excludedBy (now (specs .entry)) (now (negatives .entry)) count (orEmpty (madeMeant (now (specs .entry)) (now (name .entry)) source)) ⌝ }
 {
     if count == 0 {

@@ -8,9 +8,9 @@ ghost use Rattle.meaning.specs.Limits.{itemCount, specCount, nameBytes};
 ghost use Rattle.meaning.specs.Rows.{rowBytes};
 ghost use Rattle.matcher.specs.Matching.{madeMeant, MadeWithin};
 ghost use Rattle.exclude.specs.Negatives.{excludedBy};
-ghost use Rattle.row.specs.Rows.{Lent, rowMeant};
+ghost use Rattle.row.specs.Rows.{Lent, rowMeant, rowMost};
 ghost use Rattle.pair.specs.Pairs.{specOf, itemBytes, objectBytes, kindOf, fieldBytes, keptBytes};
-ghost use Rattle.pair.specs.Asking.{Askable, Ready, EndsTold, FieldTold, Put};
+ghost use Rattle.pair.specs.Asking.{sourceMost, Askable, Ready, EndsTold, FieldTold, Put};
 
 mod gone;
 
@@ -48,8 +48,8 @@ fn kept_size(
     negatives: &[u16],
     count: usize,
 ) -> usize
-    requires { ⌜ Lent (now specs) (now name) × Askable (now specs) (now negatives) count × (i ≤ specCount) × (j < itemCount) × MadeWithin (length (now specs)) (length (now name)) source × MadeWithin (length (now specs)) (length (now name)) destination × (length (orEmpty (madeMeant (now specs) (now name) source)) ≤ 8192) ⌝ }
-    ensures { λ r. ⌜ (r ≡ length (keptBytes (excludedBy (now (specs .entry)) (now (negatives .entry)) count) i j (now (specs .entry)) (now (name .entry)) source destination)) × (r ≤ 500000) ⌝ }
+    requires { ⌜ Lent (now specs) (now name) × Askable (now specs) (now negatives) count × (i ≤ specCount) × (j < itemCount) × MadeWithin (length (now specs)) (length (now name)) source × MadeWithin (length (now specs)) (length (now name)) destination × (length (orEmpty (madeMeant (now specs) (now name) source)) ≤ sourceMost) ⌝ }
+    ensures { λ r. ⌜ (r ≡ length (keptBytes (excludedBy (now (specs .entry)) (now (negatives .entry)) count) i j (now (specs .entry)) (now (name .entry)) source destination)) × (r ≤ rowMost) ⌝ }
 {
     if removed(specs, name, source, negatives, count) {
         return 0;
@@ -69,7 +69,7 @@ pub fn item_size(
     count: usize,
 ) -> usize
     requires { ⌜ Ready (now specs) m × Askable (now specs) (now negatives) count × (i ≤ specCount) × (j < itemCount) × (length (now name) ≤ nameBytes) ⌝ }
-    ensures { λ r. ⌜ (r ≡ length (itemBytes back (excludedBy (now (specs .entry)) (now (negatives .entry)) count) i j (now (name .entry)) (specOf (now (specs .entry)) m))) × (r ≤ 500000) ⌝ }
+    ensures { λ r. ⌜ (r ≡ length (itemBytes back (excludedBy (now (specs .entry)) (now (negatives .entry)) count) i j (now (name .entry)) (specOf (now (specs .entry)) m))) × (r ≤ rowMost) ⌝ }
 {
     match ends(back, specs, m, name) {
         Ends::Nothing => 0,
@@ -83,7 +83,7 @@ pub fn item_size(
 // How many bytes the row of an object source of spec i takes that has these texts.
 fn made_object_size(specs: &[u8], i: usize, source: Made, destination: Made) -> usize
     requires { ⌜ Lent (now specs) [] × (i ≤ specCount) × MadeWithin (length (now specs)) 0 source × MadeWithin (length (now specs)) 0 destination ⌝ }
-    ensures { λ r. ⌜ (r ≡ length (rowBytes (rowMeant (now (specs .entry)) [] 0 i 1 source destination))) × (r ≤ 500000) ⌝ }
+    ensures { λ r. ⌜ (r ≡ length (rowBytes (rowMeant (now (specs .entry)) [] 0 i 1 source destination))) × (r ≤ rowMost) ⌝ }
 {
     row_size(specs, &specs[..0], 0, i, 1, source, destination)
 }
@@ -91,7 +91,7 @@ fn made_object_size(specs: &[u8], i: usize, source: Made, destination: Made) -> 
 // How many bytes the row of spec i takes as an object source; any other spec has none.
 pub fn object_size(specs: &[u8], m: Matcher, i: usize) -> usize
     requires { ⌜ Ready (now specs) m × (i ≤ specCount) ⌝ }
-    ensures { λ r. ⌜ (r ≡ length (objectBytes i (specOf (now (specs .entry)) m))) × (r ≤ 500000) ⌝ }
+    ensures { λ r. ⌜ (r ≡ length (objectBytes i (specOf (now (specs .entry)) m))) × (r ≤ rowMost) ⌝ }
 {
     match object(specs, m) {
         Ends::Nothing => 0,

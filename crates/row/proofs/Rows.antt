@@ -7,6 +7,7 @@ use native.Mathlib.Omega.{arith}
 use native.Mathlib.Numerals.{add-one}
 use lib.ListN.{length, length-append}
 use Rattle.meaning.specs.Bytes.{Text, orEmpty}
+use Rattle.meaning.specs.Limits.{numberGroups}
 use Rattle.meaning.specs.Number.{numberBytes, textBytes}
 use Rattle.meaning.specs.Rows.{destinationBytes, rowBytes}
 use Rattle.buffer.specs.Splice.{splice}
@@ -18,7 +19,8 @@ use Rattle.number.proofs.Bytes.{bytes-few, size-one}
 use Rattle.matcher.specs.declared.types.Made.{Made}
 use Rattle.matcher.specs.declared.types.Made.the-variants.{Absent, Name, Led, Filled}
 use Rattle.matcher.specs.Matching.{madeMeant}
-use Rattle.row.specs.Rows.{isAbsent, rowMeant, rowNumbers, presentBytes}
+use Rattle.made.specs.Leads.{madeMost}
+use Rattle.row.specs.Rows.{isAbsent, rowMeant, rowNumbers, presentBytes, textMost, rowMost}
 
 -- a destination that is absent
 pub destination-none : (specs name : Text) (m : Made) → isAbsent m ≡ true → destinationBytes (madeMeant specs name m) ≡ numberBytes 0
@@ -36,16 +38,16 @@ destination-some specs name (Filled a b c d f g) e = refl
 
 -- the sums of a row's sizes are a machine's numbers, and small
 
-number-few : (m k : ℕ) → m ≡ length (numberBytes k) → m ≤ 3
+number-few : (m k : ℕ) → m ≡ length (numberBytes k) → m ≤ numberGroups
 number-few m k e = omega (arith, bytes-few k)
 
-pub text-fits : (m n k : ℕ) → m ≡ length (numberBytes k) → n ≤ 200000 → Fits w64 (m + n)
+pub text-fits : (m n k : ℕ) → m ≡ length (numberBytes k) → n ≤ madeMost → Fits w64 (m + n)
 text-fits m n k e h = omega (arith, number-few m k e)
 
-pub source-small : (m n k : ℕ) → m ≡ length (numberBytes k) → n ≤ 200000 → m + n ≤ 200003
+pub source-small : (m n k : ℕ) → m ≡ length (numberBytes k) → n ≤ madeMost → m + n ≤ textMost
 source-small m n k e h = omega (arith, number-few m k e)
 
-pub destination-small : (m n k : ℕ) → m ≡ length (numberBytes k) → n ≤ 200000 → m + n ≤ 200004
+pub destination-small : (m n k : ℕ) → m ≡ length (numberBytes k) → n ≤ madeMost → m + n ≤ textMost
 destination-small m n k e h = omega (arith, number-few m k e)
 
 pub two-fit : (a b i j : ℕ) → a ≡ length (numberBytes i) → b ≡ length (numberBytes j) → Fits w64 (a + b)
@@ -55,13 +57,13 @@ module _ (a b c i j k : ℕ) (e : a ≡ length (numberBytes i)) (f : b ≡ lengt
   pub three-fit : Fits w64 (a + b + c)
   three-fit = omega (arith, number-few a i e, number-few b j f, number-few c k g)
 
-  pub four-fit : (s : ℕ) → s ≤ 200003 → Fits w64 (a + b + c + s)
+  pub four-fit : (s : ℕ) → s ≤ textMost → Fits w64 (a + b + c + s)
   four-fit s h = omega (arith, number-few a i e, number-few b j f, number-few c k g)
 
-  pub five-fit : (s d : ℕ) → s ≤ 200003 → d ≤ 200004 → Fits w64 (a + b + c + s + d)
+  pub five-fit : (s d : ℕ) → s ≤ textMost → d ≤ textMost → Fits w64 (a + b + c + s + d)
   five-fit s d h l = omega (arith, number-few a i e, number-few b j f, number-few c k g)
 
-  pub row-small : (s d : ℕ) → s ≤ 200003 → d ≤ 200004 → a + b + c + s + d ≤ 500000
+  pub row-small : (s d : ℕ) → s ≤ textMost → d ≤ textMost → a + b + c + s + d ≤ rowMost
   row-small s d h l = omega (arith, number-few a i e, number-few b j f, number-few c k g)
 
 -- a destination that is there, written

@@ -1,15 +1,16 @@
 -- A row of a listing with its texts as places, and the row that it means.
-use Prim.Native.Nat.{ℕ, suc, _≤_}
+use Prim.Native.Nat.{ℕ, suc, _+_, _*_, _≤_}
 use mathlib.Core.Bool.{Bool, true, false}
 use mathlib.Core.List.{_++_}
 use lib.ListN.{length}
 use Rattle.meaning.specs.Bytes.{Text, orEmpty}
-use Rattle.meaning.specs.Limits.{specListBytes, nameBytes, itemCount, specCount}
+use Rattle.meaning.specs.Limits.{specListBytes, nameBytes, itemCount, specCount, numberGroups}
 use Rattle.meaning.specs.Number.{numberBytes}
 use Rattle.meaning.specs.Rows.{Row}
 use Rattle.matcher.specs.declared.types.Made.{Made}
 use Rattle.matcher.specs.declared.types.Made.the-variants.{Absent, Name, Led, Filled}
 use Rattle.matcher.specs.Matching.{madeMeant, MadeWithin}
+use Rattle.made.specs.Leads.{madeMost}
 
 -- a text is not there
 abbrev pub isAbsent : Made → Bool
@@ -49,3 +50,11 @@ rowNumbers item spec kind = numberBytes item ++ (numberBytes spec ++ numberBytes
 -- a destination that is there: its length plus 1, then its bytes
 abbrev pub presentBytes : Text → Text
 presentBytes t = numberBytes (suc (length t)) ++ t
+
+-- a text with its length before it has at most so many bytes
+abbrev pub textMost : ℕ
+textMost = numberGroups + madeMost
+
+-- and a row: three numbers and two such texts
+abbrev pub rowMost : ℕ
+rowMost = 3 * numberGroups + 2 * textMost

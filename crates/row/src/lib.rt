@@ -3,11 +3,12 @@ ghost use mathlib.Core.Path.{_≡_};
 ghost use Prim.Native.Nat.{_+_, _≤_};
 ghost use lib.ListN.{length};
 ghost use Rattle.meaning.specs.Bytes.{orEmpty};
+ghost use Rattle.meaning.specs.Limits.{itemCount, specCount};
 ghost use Rattle.meaning.specs.Number.{textBytes};
 ghost use Rattle.meaning.specs.Rows.{destinationBytes, rowBytes};
 ghost use Rattle.buffer.specs.Splice.{splice};
 ghost use Rattle.matcher.specs.Matching.{madeMeant, MadeWithin};
-ghost use Rattle.row.specs.Rows.{Lent, RowWithin, isAbsent, rowMeant, rowNumbers, presentBytes};
+ghost use Rattle.row.specs.Rows.{Lent, RowWithin, isAbsent, rowMeant, rowNumbers, presentBytes, textMost, rowMost};
 use made::made_size;
 use made::put_made;
 use matcher::types::Made;
@@ -34,7 +35,7 @@ fn is_absent(m: Made) -> bool
 // How many bytes a source takes, its length before it.
 fn source_size(specs: &[u8], name: &[u8], source: Made) -> usize
     requires { ⌜ Lent (now specs) (now name) × MadeWithin (length (now specs)) (length (now name)) source ⌝ }
-    ensures { λ r. ⌜ (r ≡ length (textBytes (orEmpty (madeMeant (now (specs .entry)) (now (name .entry)) source)))) × (r ≤ 200003) ⌝ }
+    ensures { λ r. ⌜ (r ≡ length (textBytes (orEmpty (madeMeant (now (specs .entry)) (now (name .entry)) source)))) × (r ≤ textMost) ⌝ }
 {
     let n = made_size(specs, name, source);
     number::size(n) + n
@@ -43,7 +44,7 @@ fn source_size(specs: &[u8], name: &[u8], source: Made) -> usize
 // How many bytes a destination takes: its length plus 1 before it, or 0 alone where there is none.
 fn destination_size(specs: &[u8], name: &[u8], destination: Made) -> usize
     requires { ⌜ Lent (now specs) (now name) × MadeWithin (length (now specs)) (length (now name)) destination ⌝ }
-    ensures { λ r. ⌜ (r ≡ length (destinationBytes (madeMeant (now (specs .entry)) (now (name .entry)) destination))) × (r ≤ 200004) ⌝ }
+    ensures { λ r. ⌜ (r ≡ length (destinationBytes (madeMeant (now (specs .entry)) (now (name .entry)) destination))) × (r ≤ textMost) ⌝ }
 {
     if is_absent(destination) {
         return 1;
@@ -63,7 +64,7 @@ pub fn row_size(
     destination: Made,
 ) -> usize
     requires { ⌜ Lent (now specs) (now name) × RowWithin (length (now specs)) (length (now name)) item spec kind source destination ⌝ }
-    ensures { λ r. ⌜ (r ≡ length (rowBytes (rowMeant (now (specs .entry)) (now (name .entry)) item spec kind source destination))) × (r ≤ 500000) ⌝ }
+    ensures { λ r. ⌜ (r ≡ length (rowBytes (rowMeant (now (specs .entry)) (now (name .entry)) item spec kind source destination))) × (r ≤ rowMost) ⌝ }
 {
     let numbers = number::size(item) + number::size(spec) + number::size(kind);
     numbers + source_size(specs, name, source) + destination_size(specs, name, destination)
@@ -71,7 +72,7 @@ pub fn row_size(
 
 // Writes the three numbers that a row begins with, and answers the place after them.
 fn put_numbers(out: &mut [u8], at: usize, item: usize, spec: usize, kind: usize) -> usize
-    requires { ⌜ (item ≤ 1024) × (spec ≤ 1024) × (kind ≤ 1024) × (at + length (rowNumbers item spec kind) ≤ length (now out)) ⌝ }
+    requires { ⌜ (item ≤ itemCount) × (spec ≤ specCount) × (kind ≤ 1) × (at + length (rowNumbers item spec kind) ≤ length (now out)) ⌝ }
     ensures { λ r. ⌜ (now (out .exit) ≡ splice (now (out .entry)) at (rowNumbers item spec kind)) × (r ≡ at + length (rowNumbers item spec kind)) ⌝ }
 {
     let i = number::put(out, at, item);

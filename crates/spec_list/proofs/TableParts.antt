@@ -13,6 +13,10 @@ use denote.Memory.{mem}
 use denote.Index.{row}
 use denote.Steps.{nothing}
 
+-- how many bytes a record has
+abbrev pub recordBytes : ℕ
+recordBytes = 14
+
 module _ (R : RattleType) where
   -- where record n lies, the first at o
   abbrev pub past : ℕ → ℕ → ℕ

@@ -49,10 +49,13 @@ use denote.Triple.Table.{entered, cited}
 use denote.Triple.Walked.{says, needs, Stays, stay-none, stay-none-slice, gave-slice, walkOf, goes-none, goes-none-slice, goes-gave-slice, Walks, ends-at, walked, walk-meets}
 use denote.Triple.Clauses.{Lasts, ensured, lasts}
 use denote.Exit.{yes}
+use Rattle.meaning.specs.Limits.{specCount}
+use Rattle.matchers.specs.Numbers.{matcherNumbers}
+use Rattle.exclude.specs.Negatives.{negativeNumbers}
 use Rattle.spec_list.specs.declared.record.SpecRecord.{SpecRecord}
 use Rattle.spec_list.proofs.record.SpecRecord as T
 use Rattle.spec_list.proofs.record.SpecRecord.Laws as T′
-use Rattle.spec_list.proofs.TableParts.{past, cut, mend}
+use Rattle.spec_list.proofs.TableParts.{recordBytes, past, cut, mend}
 use Rattle.noted.specs.Standing.{Notable, NotedAll}
 use Rattle.noted.proofs.note_specs as callee
 use Rattle.noted.proofs.note_specs.Symbol as callee-def
@@ -68,7 +71,7 @@ abbrev R : RattleType
 R = T.the-row
 
 abbrev B : RattleType
-B = Array R 256
+B = Array R specCount
 
 abbrev stayed : Stays (self.ended .signature .params) (self.ended .kept)
 stayed = (stay-none-slice (0 ∷ []) tt (plain (λ _. u8)) yes, (stay-none (λ _. B) yes, (stay-none (λ _. usize) yes, (gave-slice (1 ∷ []) tt (plain (λ _. u16)), (gave-slice (2 ∷ []) tt (plain (λ _. u16)), tt)))))
@@ -139,7 +142,7 @@ module _ {M : Type 1} (𝓤 : URA M) (H : Heap 𝓤) (A : Atoms 𝓤) (W : Given
     abbrev Lent : List (Item 𝓤)
     Lent = ‵ OwnS ∷ ‵ (ShrSlice (named 1) (α ∷ []) R .own (lent l γ) (sv l ∷ [])) ∷ ‵ OwnT ∷ ‵ OwnN ∷ ‵ (flft κ₀ q₀) ∷ ‵ (flft (α ∷ []) fullShare) ∷ ‵ (flft κ₁ q₁) ∷ ‵ (flft κ₂ q₂) ∷ []
 
-    asks : Notable (s .now) ys × (10 * length ys ≤ length (table .now)) × (4 * length ys ≤ length (negatives .now)) → ent 𝓤 (⋆ 𝓤 H A Lent) (Callee 𝓤 H A mem run .pre to)
+    asks : Notable (s .now) ys × (matcherNumbers * length ys ≤ length (table .now)) × (negativeNumbers * length ys ≤ length (negatives .now)) → ent 𝓤 (⋆ 𝓤 H A Lent) (Callee 𝓤 H A mem run .pre to)
     asks h =
         qed W Lent ∵ says ! h $
         nothing ! $ move ! (4 ∷ 0 ∷ []) $ fjoin ! $ move ! (3 ∷ 0 ∷ []) $ fjoin ! $ move ! (2 ∷ 0 ∷ []) $ fjoin ! $ move ! (1 ∷ 0 ∷ []) $ fjoin ! $
@@ -157,14 +160,14 @@ module _ {M : Type 1} (𝓤 : URA M) (H : Heap 𝓤) (A : Atoms 𝓤) (W : Given
       nothing ! $ move ! (2 ∷ 0 ∷ []) $ fjoin ! $ move ! (2 ∷ 0 ∷ []) $ fjoin ! $ owned ! usize (Is usize) (uint-makes 𝓤 H A W w64) n (vint w64 n ∷ []) (refl, gn) $ fjoin ! $ move ! (3 ∷ 0 ∷ []) $ fjoin ! $ move ! (2 ∷ 0 ∷ []) $ fjoin ! $ frame ! $ done !
 
   module _ (C : Calls 𝓤 H) (Λ : Loops 𝓤 H) (fm : FmC 𝓤 H (W .laws) C) (known : Triple 𝓤 (C #noted·note-specs) (Callee 𝓤 H A mem run)) where
-    walk : Is (ShrSlice (named 0) κ₀ u8) s (v₀ ∷ []) → Holds (hasTy (lone (B .mir)) v) × WT v → length xs ≡ 256 → n < 2 ^ 64 → Is (MutSlice (named 1) κ₁ u16) table (v₁ ∷ []) → Is (MutSlice (named 2) κ₂ u16) negatives (v₂ ∷ [])
-        → n ≤ 256 → Notable (s .now) ys → 10 * n ≤ length (table .now) → 4 * n ≤ length (negatives .now) → ent 𝓤 (onEntry 𝓤 H A self.signature κs (q₀, (q₁, (q₂, tt))) args vs) (WpFn 𝓤 H C Λ code.function (v₀ ∷ v ∷ vint w64 n ∷ v₁ ∷ v₂ ∷ []) Post)
+    walk : Is (ShrSlice (named 0) κ₀ u8) s (v₀ ∷ []) → Holds (hasTy (lone (B .mir)) v) × WT v → length xs ≡ specCount → n < 2 ^ 64 → Is (MutSlice (named 1) κ₁ u16) table (v₁ ∷ []) → Is (MutSlice (named 2) κ₂ u16) negatives (v₂ ∷ [])
+        → n ≤ specCount → Notable (s .now) ys → matcherNumbers * n ≤ length (table .now) → negativeNumbers * n ≤ length (negatives .now) → ent 𝓤 (onEntry 𝓤 H A self.signature κs (q₀, (q₁, (q₂, tt))) args vs) (WpFn 𝓤 H C Λ code.function (v₀ ∷ v ∷ vint w64 n ∷ v₁ ∷ v₂ ∷ []) Post)
     unfolding partOf
     walk p₀ wt e gn p₁ p₂ few ready wide₁ wide₂ =
         let fits-in : n ≤ length xs = omega arith in
         let e₂ : length ys ≡ n = length-take-le n xs fits-in in
         let room0 : length ys < 2 ^ 64 = omega arith in
-        let room1 : length ys * 14 < 2 ^ 63 = omega arith in
+        let room1 : length ys * recordBytes < 2 ^ 63 = omega arith in
         qed W ((‵ (flft κ₀ q₀) ⊛ ‵ (flft κ₁ q₁) ⊛ ‵ (flft κ₂ q₂) ⊛ ‵ ftrue) ∷ ‵ (owns (ShrSlice (named 0) κ₀ u8 ∷ B ∷ usize ∷ MutSlice (named 1) κ₁ u16 ∷ MutSlice (named 2) κ₂ u16 ∷ []) args vs) ∷ []) ∵
         enter ! C Λ code.function (v₀ ∷ v ∷ vint w64 n ∷ v₁ ∷ v₂ ∷ []) _ $
         alloc1 ! (λ l₀. alloc1 ! (λ l₁. alloc1 ! (λ l₂. alloc1 ! (λ l₃. alloc1 ! (λ l₄. alloc1 ! (λ l₅. alloc1 ! (λ l₆. alloc1 ! (λ l₇. alloc1 ! (λ l₈. alloc1 ! (λ l₉. alloc1 ! (λ l₁₀. alloc1 ! (λ l₁₁. alloc1 ! (λ l₁₂. alloc0 ! $ params1 ! $
@@ -179,10 +182,10 @@ module _ {M : Type 1} (𝓤 : URA M) (H : Heap 𝓤) (A : Atoms 𝓤) (W : Given
         assigns ! (addr ! (from ! (fld ! refl (hop ! (look-in ! 14 (sub ! 0 refl (whole !))) (stop !))))) (from ! (stop !)) (init ! 2 refl (tt, tt)) $
         assigns ! (agg ! (and-then ! (load ! (from ! (stop !)) (look ! 2 refl)) (and-then ! (load ! (from ! (fld ! refl (stop !))) (look-in ! 14 (sub ! 1 refl (whole !)))) (no-more !)))) (from ! (stop !)) (init ! 0 refl (tt, (tt, (record { fits = p₂ .0 .1 .0 }, tt)))) $
         -- what the table owns is had twice; with one copy the slot's value is an array in memory, which is taken apart into its elements, the first n and the others
-        move ! (27 ∷ []) $ fsplit ! $ move ! (1 ∷ []) $ fsplit ! $ use1 W (‵ OwnB ⊛ ‵ OwnB) (array-copy 𝓤 H A W R (LL.copy T.the-type T′.the-copy 𝓤 H A W) 256 .twice xs (v ∷ [])) $ split ! $
+        move ! (27 ∷ []) $ fsplit ! $ move ! (1 ∷ []) $ fsplit ! $ use1 W (‵ OwnB ⊛ ‵ OwnB) (array-copy 𝓤 H A W R (LL.copy T.the-type T′.the-copy 𝓤 H A W) specCount .twice xs (v ∷ [])) $ split ! $
         move ! (16 ∷ 0 ∷ []) $ use1 W (‵ (cellAt fullShare (B .mir) (v ∷ []) l₆ 0)) (W .laws .at-raw fullShare (lone (B .mir)) l₆ 0 v) $
         fjoin ! $ fpack ! (List Val) (λ us. fsep (cellAt fullShare (B .mir) us l₆ 0) (B .own xs us)) (v ∷ []) $
-        use1 W (‵ (arr-parts (shares R) 256 .part fullShare xs l₆ 0)) (array-apart 𝓤 H A W R fullShare tt 256 xs l₆ 0) $ fsplit ! $ feqL ! (λ _.
+        use1 W (‵ (arr-parts (shares R) specCount .part fullShare xs l₆ 0)) (array-apart 𝓤 H A W R fullShare tt specCount xs l₆ 0) $ fsplit ! $ feqL ! (λ _.
         use1 W (‵ (row R fullShare ys l₆ 0) ⊛ ‵ (row R fullShare (rest-of n xs) l₆ (past R n 0))) (cut 𝓤 H A W R fullShare n xs l₆ 0) $ split ! $
         feqI ! ℕ (length ys) (length ys) refl $ fjoin ! $
         -- a lifetime is made, and the first n elements are lent for it
@@ -207,10 +210,10 @@ module _ {M : Type 1} (𝓤 : URA M) (H : Heap 𝓤) (A : Atoms 𝓤) (W : Given
         -- the lifetime is ended, and the slot is whole again
         move ! (1 ∷ []) $ split ! $ move ! (1 ∷ []) $ split ! $ lft-end ! tt $ move ! (0 ∷ 10 ∷ []) $ lent-back ! tt $ fsplit ! $ feqL ! (λ _.
         -- [the first n; the tokens of κ₁ and κ₂; κ₀'s; the result; the negatives' last list; true; the table's; OwnS; true; true; the others; OwnB; _12; …]
-        move ! (0 ∷ 10 ∷ []) $ use2 W (‵ (row R fullShare xs l₆ 0)) (mend 𝓤 H A W R fullShare n xs l₆ 0) $ feqI ! ℕ (length xs) 256 e $ fjoin ! $
-        use1 W (‵ (partAt B fullShare xs l₆ 0)) (array-whole 𝓤 H A W R fullShare 256 xs l₆ 0) $
+        move ! (0 ∷ 10 ∷ []) $ use2 W (‵ (row R fullShare xs l₆ 0)) (mend 𝓤 H A W R fullShare n xs l₆ 0) $ feqI ! ℕ (length xs) specCount e $ fjoin ! $
+        use1 W (‵ (partAt B fullShare xs l₆ 0)) (array-whole 𝓤 H A W R fullShare specCount xs l₆ 0) $
         fpick ! (λ us. fsplit ! $ move ! (1 ∷ []) $ peeks ! B (Is B) (shows 𝓤 H A B) xs us (λ q. drop ! $
-        rewrite ! 0 (λ (ws : List Val). ‵ (cellAt fullShare (B .mir) ws l₆ 0)) (array-tells R (LL.vals T.the-type T′.the-laws) (LL.tells T.the-type T′.the-laws) 256 xs us q) refl $
+        rewrite ! 0 (λ (ws : List Val). ‵ (cellAt fullShare (B .mir) ws l₆ 0)) (array-tells R (LL.vals T.the-type T′.the-laws) (LL.tells T.the-type T′.the-laws) specCount xs us q) refl $
         use1 W (‵ (fat fullShare (lone (B .mir)) l₆ 0 _)) (W .laws .raw-at fullShare (lone (B .mir)) l₆ 0 _) $
         -- [_6; the tokens of κ₁ and κ₂; κ₀'s; the result; the negatives' last list; true; the table's; OwnS; true; true; OwnB; _12; …; (_6's right); _5; …]
         returns ! (look ! 34 refl) $ forget ! 0 refl $ forget ! 11 refl $ forget ! 13 refl $ forget ! 15 refl $ forget ! 17 refl $ forget ! 19 refl $ forget ! 21 refl $ forget ! 24 refl $ forget ! 26 refl $ forget ! 28 refl $ forget ! 30 refl $ forget ! 32 refl $ forget ! 34 refl $
@@ -222,10 +225,10 @@ module _ {M : Type 1} (𝓤 : URA M) (H : Heap 𝓤) (A : Atoms 𝓤) (W : Given
   self-walks : (C : Calls 𝓤 H) (Λ : Loops 𝓤 H) → FmC 𝓤 H (W .laws) C → Triple 𝓤 (C #noted·note-specs) (Callee 𝓤 H A mem run)
       → Walks 𝓤 H A self.ended stayed (WpFn 𝓤 H C Λ code.function) (self.clauses 𝓤 H A mem run)
   self-walks C Λ fm known = walked 𝓤 H A self.ended stayed (self.clauses 𝓤 H A mem run) (WpFn 𝓤 H C Λ code.function) (λ κs. (slice-vals, (array-vals (LL.vals T.the-type T′.the-laws), (uint-vals w64, (slice-vals, (slice-vals, tt))))))
-      (λ κs. (shr-slice-tells (named 0) (κs .0) u8, (array-tells R (LL.vals T.the-type T′.the-laws) (LL.tells T.the-type T′.the-laws) 256, (uint-tells w64, (mut-slice-tells (named 1) (κs .1 .0) u16, (mut-slice-tells (named 2) (κs .1 .1 .0) u16, tt))))))
+      (λ κs. (shr-slice-tells (named 0) (κs .0) u8, (array-tells R (LL.vals T.the-type T′.the-laws) (LL.tells T.the-type T′.the-laws) specCount, (uint-tells w64, (mut-slice-tells (named 1) (κs .1 .0) u16, (mut-slice-tells (named 2) (κs .1 .1 .0) u16, tt))))))
       (λ κs qs bounds a g are. needs 𝓤 _ _
       (λ h. walk 𝓤 H A W mem run (κs .0) (κs .1 .0) (κs .1 .1 .0) (qs .0) (qs .1 .0) (qs .1 .1 .0) (a .0) (a .1 .0) _ (a .1 .1 .0) (a .1 .1 .1 .0) (a .1 .1 .1 .1 .0) C Λ fm known (are .0)
-      (array-typed R (LL.lawful T.the-type T′.the-laws 𝓤 H A W .typed) 256 (a .1 .0) _ (are .1 .0) .0) (are .1 .0 .1 .0 .1) (are .1 .1 .0 .1) (are .1 .1 .1 .0) (are .1 .1 .1 .1 .0) (h .0) (h .1) (h .2) (h .3)))
+      (array-typed R (LL.lawful T.the-type T′.the-laws 𝓤 H A W .typed) specCount (a .1 .0) _ (are .1 .0) .0) (are .1 .0 .1 .0 .1) (are .1 .1 .0 .1) (are .1 .1 .1 .0) (are .1 .1 .1 .1 .0) (h .0) (h .1) (h .2) (h .3)))
 
 self-meets : {M : Type 1} (𝓤 : URA M) (H : Heap 𝓤) (A : Atoms 𝓤) (W : Given 𝓤 H A) (mem : Memory → SProp 𝓤) (run : Routine → Fun 𝓤) (𝓣 : Tables 𝓤 H)
     → Triple 𝓤 (𝓣 .C #noted·note-specs) (Callee 𝓤 H A mem run)

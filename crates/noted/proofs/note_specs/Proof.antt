@@ -48,6 +48,8 @@ use denote.Exit.{yes}
 use borrow.Author.Tests.{ltb-true, ltb-false}
 use Rattle.meaning.specs.Limits.{specListBytes}
 use Rattle.parse.specs.Places.{SidesWithin}
+use Rattle.matchers.specs.Numbers.{matcherNumbers}
+use Rattle.exclude.specs.Negatives.{negativeNumbers}
 use Rattle.exclude.specs.Making.{Added}
 use Rattle.spec_list.specs.declared.record.SpecRecord.{SpecRecord}
 use Rattle.spec_list.specs.Table.{specFrom, specAt}
@@ -194,7 +196,7 @@ module _ {M : Type 1} (𝓤 : URA M) (H : Heap 𝓤) (A : Atoms 𝓤) (W : Given
 
   -- what it asks, and what it says of the number k and the lists ts and ns
   abbrev Asked : At → SpecRecord → Type 0
-  Asked t r = SidesWithin (length (s .now)) (specFrom r) × (length (s .now) ≤ specListBytes) × (10 * t .i + 10 ≤ length (t .table)) × (4 * t .count + 4 ≤ length (t .negatives))
+  Asked t r = SidesWithin (length (s .now)) (specFrom r) × (length (s .now) ≤ specListBytes) × (matcherNumbers * t .i + matcherNumbers ≤ length (t .table)) × (negativeNumbers * t .count + negativeNumbers ≤ length (t .negatives))
 
   abbrev Told : At → SpecRecord → ℕ → List ℕ → List ℕ → Type 0
   Told t r k ts ns = NotedAt (s .now) (recordMeant (s .now) r) (t .table) (t .i) ts × Added (s .now) (recordMeant (s .now) r) (t .negatives) (t .count) ns k
@@ -213,7 +215,7 @@ module _ {M : Type 1} (𝓤 : URA M) (H : Heap 𝓤) (A : Atoms 𝓤) (W : Given
         owned ! usize (Is usize) (uint-makes 𝓤 H A W w64) (t .i) (vint w64 (t .i) ∷ []) (refl, gi) $ fjoin ! $ move ! (2 ∷ 0 ∷ []) $ fjoin ! $ move ! (1 ∷ 0 ∷ []) $ fjoin ! $
         nothing ! $ move ! (4 ∷ 0 ∷ []) $ join ! $ move ! (3 ∷ 0 ∷ []) $ join ! $ move ! (2 ∷ 0 ∷ []) $ join ! $ done !
 
-  module _ (ready : Notable (s .now) (rs .now)) (wide₂ : 10 * length (rs .now) ≤ length ts₀) (wide₃ : 4 * length (rs .now) ≤ length ns₀) (p₀ : Is (ShrSlice (named 0) κ₀ u8) s (v₀ ∷ [])) (p₁ : Is (ShrSlice (named 1) κ₁ R) rs (v₁ ∷ [])) (g₂ : Room u16 (length ts₀)) (g₃ : Room u16 (length ns₀)) where
+  module _ (ready : Notable (s .now) (rs .now)) (wide₂ : matcherNumbers * length (rs .now) ≤ length ts₀) (wide₃ : negativeNumbers * length (rs .now) ≤ length ns₀) (p₀ : Is (ShrSlice (named 0) κ₀ u8) s (v₀ ∷ [])) (p₁ : Is (ShrSlice (named 1) κ₁ R) rs (v₁ ∷ [])) (g₂ : Room u16 (length ts₀)) (g₃ : Room u16 (length ns₀)) where
     -- the turn u comes after t
     abbrev Nearer : At → At → Type 0
     Nearer u t = length (rs .now) - u .i < length (rs .now) - t .i

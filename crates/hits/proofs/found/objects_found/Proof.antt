@@ -2,6 +2,7 @@
 use Prim.Native.Nat.{_-_}
 use native.Mathlib.Omega.{arith}
 use lib.ListN.{length}
+use Rattle.row.specs.Rows.{rowMost}
 use Rattle.pair.specs.Pairs.{objectBytes}
 use Rattle.hits.specs.Hits.{specAt, hitIf, hitOf}
 use Rattle.hits.proofs.Finding.{RowFound, row-begin, row-next, row-measured, row-noted, objects-fit, objects-small, object-measured, object-noted, object-hit, matcher-room, matcher-ready, spec-few}
@@ -10,7 +11,7 @@ use Rattle.hits.proofs.found.objects_found.Statement.{statement}
 use Rattle.hits.proofs.found.objects_found.Tie as tie
 
 abbrev Inv-loop : tie.InvT-loop
-Inv-loop specs table group hits₀ size₀ noted₀ i₀ hits size noted i = RowFound (λ i. objectBytes i (specAt specs table i)) (λ i. hitIf (length (objectBytes i (specAt specs table i))) (hitOf i 0)) group 500000 hits₀ hits size noted i
+Inv-loop specs table group hits₀ size₀ noted₀ i₀ hits size noted i = RowFound (λ i. objectBytes i (specAt specs table i)) (λ i. hitIf (length (objectBytes i (specAt specs table i))) (hitOf i 0)) group rowMost hits₀ hits size noted i
 
 abbrev μ-loop : tie.MeasureT-loop
 μ-loop specs table group hits₀ size₀ noted₀ i₀ hits size noted i = group - i

@@ -2,14 +2,15 @@
 use Prim.Native.Nat.{_-_}
 use native.Mathlib.Omega.{arith}
 use Rattle.exclude.specs.Negatives.{excludedBy}
-use Rattle.hits.specs.Hits.{specBytes, specHits}
+use Rattle.hits.specs.Hits.{specGives, specHits}
+use Rattle.hits.specs.Noting.{specMost}
 use Rattle.hits.proofs.Finding.{RowFound, row-begin, row-next, row-measured, row-noted, specs-fit, specs-small}
 use borrow.Author.Needs.{needs}
 use Rattle.hits.proofs.found.specs_found.Statement.{statement}
 use Rattle.hits.proofs.found.specs_found.Tie as tie
 
 abbrev Inv-loop : tie.InvT-loop
-Inv-loop back specs table group items places n negatives count hits₀ size₀ noted₀ i₀ hits size noted i = RowFound (specBytes back (excludedBy specs negatives count) specs table items places n) (specHits back (excludedBy specs negatives count) specs table items places n) group 512000000 hits₀ hits size noted i
+Inv-loop back specs table group items places n negatives count hits₀ size₀ noted₀ i₀ hits size noted i = RowFound (specGives back (excludedBy specs negatives count) specs table items places n) (specHits back (excludedBy specs negatives count) specs table items places n) group specMost hits₀ hits size noted i
 
 abbrev μ-loop : tie.MeasureT-loop
 μ-loop back specs table group items places n negatives count hits₀ size₀ noted₀ i₀ hits size noted i = group - i

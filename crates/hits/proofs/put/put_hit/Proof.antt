@@ -5,10 +5,10 @@ use Rattle.hits.proofs.put.put_hit.Statement.{statement}
 use Rattle.hits.proofs.put.put_hit.Tie as tie
 
 start-of-requires : tie.Need-start-of-requires
-start-of-requires c κs = (search hit-field-few, search hit-places)
+start-of-requires c κs = search hit-places
 
 size-of-requires : tie.Need-size-of-requires
-size-of-requires c κs = (search hit-field-few, search hit-places)
+size-of-requires c κs = search hit-places
 
 part-requires : tie.Need-part-requires
 part-requires c κs = (search hit-inside, search needs)

@@ -5,7 +5,7 @@ use Prim.Native.Nat.{_-_, _/_, _≤_}
 use native.Mathlib.Omega.{arith}
 use denote.Ref.{now}
 use Rattle.matchers.specs.Numbers.{matcherAt}
-use Rattle.hits.specs.Hits.{hitBytes}
+use Rattle.hits.specs.Hits.{hitStride, hitBytes}
 use Rattle.hits.proofs.Writes.{HitsWritten, hits-begin, hits-end, hits-none, first-matcher, turn-matcher, turn-ready, turn-spec, turn-item, turn-gives, turn-room, turn-next}
 use borrow.Author.Needs.{needs}
 use Rattle.hits.proofs.put.put_hits.Statement.{statement}
@@ -53,7 +53,7 @@ put-hit-requires c κs =
     let h = b .before .before .loop-test .taken in
     let e = b .wider .ensures in
     let w = l .loop .inv .0 in
-    let em : c .before .if2 .m ≡ matcherAt (now (s .args .table)) (b .wider .result / 2048) = ⊎-elim (λ w. cc) (λ w. cc) (c .before .if2 .came) in
+    let em : c .before .if2 .m ≡ matcherAt (now (s .args .table)) (b .wider .result / hitStride) = ⊎-elim (λ w. cc) (λ w. cc) (c .before .if2 .came) in
     (search turn-ready, search needs, search turn-spec, search turn-item, search turn-gives, turn-room _ _ _ _ t _ _ _ _ _ q _ h _ e _ em _ _ _ _ w)
 
 add-k : tie.Need-add-k Inv-loop μ-loop
@@ -73,7 +73,7 @@ loop-again c =
     let h = b .before .before .loop-test .taken in
     let e = b .wider .ensures in
     let w = l .loop .inv .0 in
-    let em : j .if2 .m ≡ matcherAt (now (s .args .table)) (b .wider .result / 2048) = ⊎-elim (λ w. cc) (λ w. cc) (j .if2 .came) in
+    let em : j .if2 .m ≡ matcherAt (now (s .args .table)) (b .wider .result / hitStride) = ⊎-elim (λ w. cc) (λ w. cc) (j .if2 .came) in
     let f : j .if2 .m ≡ matcherAt (now (s .args .table)) (j .if2 .last) = ⊎-elim (λ w. cc) (λ w. cc) (j .if2 .came) in
     (turn-next _ _ _ _ t _ _ _ _ _ q _ h _ e _ em _ _ _ _ w _ _ (c .before .before .put-hit .ensures), omega arith, f)
 

@@ -5,7 +5,7 @@ use lib.ListN.{length}
 use Rattle.meaning.specs.Lists.{itemRecord}
 use Rattle.list.proofs.Readings.{Reading}
 use Rattle.list.proofs.ItemSteps.{items-start, items-less, items-more}
-use Rattle.list.proofs.Standing.{Standing, standing-none, name-few, name-start, name-size, places-room, standing-more, standing-end, standing-stop}
+use Rattle.list.proofs.Standing.{Standing, standing-none, name-start, name-size, places-room, standing-more, standing-end, standing-stop}
 use borrow.Author.Needs.{needs}
 use Rattle.list.proofs.places.each_place.Statement.{statement}
 use Rattle.list.proofs.places.each_place.Tie as tie
@@ -32,7 +32,7 @@ enum-known-start : tie.Need-enum-known-start Inv-loop μ-loop
 enum-known-start c = search needs
 
 put-place-requires : tie.Need-put-place-requires Inv-loop μ-loop
-put-place-requires c κs = (search name-few, search places-room, search (name-start, name-size), search (name-start, name-size))
+put-place-requires c κs = (search places-room, search (name-start, name-size), search (name-start, name-size))
 
 add-count : tie.Need-add-count Inv-loop μ-loop
 add-count c = search needs
