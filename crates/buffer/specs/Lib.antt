@@ -1,2 +1,3 @@
--- What contracts on a buffer cite: a text written into it.
+-- What contracts on a buffer cite. `Splice`: a text written into it. `Answers`: what a call on one buffer answers.
 pub mod Splice
+pub mod Answers

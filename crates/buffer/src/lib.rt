@@ -7,6 +7,7 @@ ghost use Rattle.meaning.specs.Bytes.{lowerByte, lower};
 ghost use Rattle.buffer.specs.Splice.{splice};
 
 mod copy;
+pub mod written;
 
 use copy::put_by_bytes;
 use copy::put_by_eights;

@@ -11,19 +11,19 @@ use lib.ListN.{length, take, drop, length-append}
 use lib.Seq.{take-at}
 use Rattle.meaning.specs.Bytes.{Text}
 use Rattle.meaning.specs.Spec.{Answer, accepted, refused}
-use Rattle.meaning.specs.Buffers.{Written, Outcome, short, writes, outcome, buffersAfter, refusalOf, lengthsOf, oneLength, MeetsOne}
+use Rattle.meaning.specs.Buffers.{Outputs, Outcome, short, writes, outcome, buffersAfter, refusalOf, lengthsOf, oneLength, MeetsOne}
 
-module _ (a : Answer Written) (entry exit : Text) (n q size : ℕ) (m : MeetsOne a entry exit n q size) where
+module _ (a : Answer Outputs) (entry exit : Text) (n q size : ℕ) (m : MeetsOne a entry exit n q size) where
   number-is : (o : Outcome) → outcome a (entry ∷ []) ≡ o → n ≡ refusalOf o
   number-is o e = m .refusal-is ∙ m .meets .tells .refusal-is ∙ ap refusalOf e
 
   -- a refusal tells its number
   pub refused-told : (k : ℕ) (r : Option ℕ) → a ≡ refused k r → n ≡ k
-  refused-told k r e = number-is (outcome (refused k r) (entry ∷ [])) (ap (λ (x : Answer Written). outcome x (entry ∷ [])) e)
+  refused-told k r e = number-is (outcome (refused k r) (entry ∷ [])) (ap (λ (x : Answer Outputs). outcome x (entry ∷ [])) e)
 
   module _ (t : Text) (e : a ≡ accepted (some t ∷ [])) where
     asked : outcome a (entry ∷ []) ≡ cond (leb (length t) (length entry)) (writes (some t ∷ [])) (short 1 (length t))
-    asked = ap (λ (x : Answer Written). outcome x (entry ∷ [])) e
+    asked = ap (λ (x : Answer Outputs). outcome x (entry ∷ [])) e
 
     fits : length t ≤ length entry → outcome a (entry ∷ []) ≡ writes (some t ∷ [])
     fits h = asked ∙ rw (le-leb (length t) (length entry) h)

@@ -9,7 +9,7 @@ use lib.ListN.{length, take}
 use Rattle.meaning.specs.Bytes.{Text}
 use Rattle.meaning.specs.Spec.{Answer, accepted, Spec, isNegative}
 use Rattle.meaning.specs.Lists.{readItems}
-use Rattle.meaning.specs.Buffers.{Written}
+use Rattle.meaning.specs.Buffers.{Outputs}
 use Rattle.meaning.specs.Entries.{_andThen_, matchLhs, matchRhs}
 use Rattle.meaning.specs.Rows.{Row, rowListOf}
 use Rattle.meaning.specs.Listing.{forwardRows, reverseRows}
@@ -44,11 +44,11 @@ listingBytes true gone group names = eachFrom (bytesOfSpec true gone names) 0 gr
 listingBytes false gone group names = eachFrom objectBytes 0 group ++ eachFrom (bytesOfSpec false gone names) 0 group
 
 -- what the listing of a group answers on an item list
-abbrev pub listing : Bool → List Spec → Text → Answer Written
+abbrev pub listing : Bool → List Spec → Text → Answer Outputs
 listing back group items = readItems items andThen λ names. accepted (some (rowListOf (rowsIn back group names)) ∷ [])
 
 -- what a listing answers, forward or in reverse
-abbrev pub listed : Bool → ℕ → Text → Text → Answer Written
+abbrev pub listed : Bool → ℕ → Text → Text → Answer Outputs
 listed true = matchRhs
 listed false = matchLhs
 

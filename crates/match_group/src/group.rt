@@ -12,13 +12,13 @@ ghost use Rattle.pair.specs.Asking.{Askable, Put};
 ghost use Rattle.hits.specs.Hits.{specGives, groupGives, groupHits};
 ghost use Rattle.hits.specs.Noting.{groupMost, objectsMost, hitRoom, PlacesIn, TableReady};
 ghost use Rattle.match_group.specs.Listing.{firstBytes, firstHits, tableBytes, Noted};
+use buffer::written::Written;
 use hits::found::Found;
 use hits::found::objects_found;
 use hits::found::spec_found;
 use hits::found::specs_found;
 use hits::put::put_hits;
 use limits::ITEM_COUNT;
-use write::written::Written;
 
 // Measures and notes what comes first: forward, the rows of object sources, whatever the items.
 fn first_found(back: bool, specs: &[u8], table: &[u16], group: usize, hits: &mut [u32]) -> Found

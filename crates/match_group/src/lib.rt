@@ -13,6 +13,7 @@ ghost use Rattle.match_group.specs.Listing.{fewSpecs, listing, listed};
 
 mod group;
 
+use buffer::written::Written;
 use exclude::NEGATIVE_NUMBERS;
 use group::list_group;
 use limits::ITEM_COUNT;
@@ -22,7 +23,6 @@ use matchers::MATCHER_NUMBERS;
 use noted::note_group;
 use spec_list::read_specs;
 use spec_list::record::SpecRecord;
-use write::written::Written;
 
 // How many specs are few.
 const FEW: usize = 16;

@@ -7,22 +7,22 @@ use mathlib.Core.Option.{Option, none, some}
 use lib.Dec.{lit≤}
 use Rattle.meaning.specs.Bytes.{Text, bytes}
 use Rattle.meaning.specs.Spec.{Answer, accepted, refused}
-use Rattle.meaning.specs.Buffers.{Written, refuses, short, writes, outcome, Told, Tells, LengthBeside, Meets, MeetsOne, MeetsTwo}
+use Rattle.meaning.specs.Buffers.{Outputs, refuses, short, writes, outcome, Told, Tells, LengthBeside, Meets, MeetsOne, MeetsTwo}
 
 -- what is told, written short
 abbrev told : ℕ → Option ℕ → List (Option ℕ) → ℕ → ℕ → Told
 told n r l i k = record { refusal = n; recordNumber = r; lengths = l; buffer = i; beside = k }
 
 -- kept rows and a fix
-abbrev pass : Answer Written
+abbrev pass : Answer Outputs
 pass = accepted (some (bytes "ab") ∷ some (bytes "c") ∷ [])
 
 -- kept rows and no fix
-abbrev passWithoutFix : Answer Written
+abbrev passWithoutFix : Answer Outputs
 passWithoutFix = accepted (some (bytes "ab") ∷ some [] ∷ [])
 
 -- conflicts: the fix buffer is left alone
-abbrev conflict : Answer Written
+abbrev conflict : Answer Outputs
 conflict = accepted (some (bytes "ab") ∷ none ∷ [])
 
 -- two buffers with room

@@ -10,15 +10,15 @@ use Rattle.meaning.specs.Bytes.{Text}
 use Rattle.meaning.specs.Spec.{Answer, accepted, refused}
 
 -- bytes for each output buffer, in order; none: that buffer is left alone
-abbrev pub Written : Type 0
-Written = List (Option Text)
+abbrev pub Outputs : Type 0
+Outputs = List (Option Text)
 
 -- what a call comes to: a refusal's number and its record's; or the first buffer that is too short for its part, counting from 1,
 -- and what it needs; or all parts are written
 pub data Outcome : Type 0 where
   refuses : ℕ → Option ℕ → Outcome
   short : ℕ → ℕ → Outcome
-  writes : Written → Outcome
+  writes : Outputs → Outcome
 
 -- the first of the buffers; a missing buffer is one of length 0
 abbrev pub firstBuffer : List Text → Text
@@ -36,12 +36,12 @@ unlessShort i none buffer later = later
 unlessShort i (some part) buffer later = cond (leb (length part) (length buffer)) later (short i (length part))
 
 -- the outcome `done` of writing, unless one of the buffers, counting from i, is too short for its part
-abbrev pub firstShort : Outcome → ℕ → Written → List Text → Outcome
+abbrev pub firstShort : Outcome → ℕ → Outputs → List Text → Outcome
 firstShort done i [] buffers = done
 firstShort done i (part ∷ parts) buffers = unlessShort i part (firstBuffer buffers) (firstShort done (suc i) parts (laterBuffers buffers))
 
 -- what an answer comes to with these buffers
-abbrev pub outcome : Answer Written → List Text → Outcome
+abbrev pub outcome : Answer Outputs → List Text → Outcome
 outcome (refused n r) buffers = refuses n r
 outcome (accepted parts) buffers = firstShort (writes parts) 1 parts buffers
 
@@ -51,7 +51,7 @@ overwrite none buffer = buffer
 overwrite (some part) buffer = part ++ drop (length part) buffer
 
 -- each buffer with its part
-abbrev pub overwritten : Written → List Text → List Text
+abbrev pub overwritten : Outputs → List Text → List Text
 overwritten [] buffers = buffers
 overwritten (part ∷ parts) [] = []
 overwritten (part ∷ parts) (b ∷ buffers) = overwrite part b ∷ overwritten parts buffers
@@ -115,7 +115,7 @@ pub record Tells (o : Outcome) (t : Told) : Type 0 where
   pub beside-is : BesideOf o (t .beside)
 
 -- a call with this answer meets its buffers, as they were at entry and are at exit, and tells so
-pub record Meets (a : Answer Written) (entry exit : List Text) (t : Told) : Type 0 where
+pub record Meets (a : Answer Outputs) (entry exit : List Text) (t : Told) : Type 0 where
   pub buffers-are : exit ≡ buffersAfter (outcome a entry) entry
   pub tells : Tells (outcome a entry) t
 
@@ -130,7 +130,7 @@ oneLength [] beside = beside
 oneLength (written ∷ lengths) beside = orZero written
 
 -- a call on one buffer meets it and tells so in three numbers: the refusal, the record and the length
-pub record MeetsOne (a : Answer Written) (entry exit : Text) (refusal recordNumber size : ℕ) : Type 0 where
+pub record MeetsOne (a : Answer Outputs) (entry exit : Text) (refusal recordNumber size : ℕ) : Type 0 where
   pub told : Told
   pub meets : Meets a (entry ∷ []) (exit ∷ []) told
   pub refusal-is : refusal ≡ told .refusal
@@ -153,7 +153,7 @@ secondLength [] = 0
 -- a call on a buffer for rows or conflicts and one for fixes meets them and tells so in six numbers: the refusal, the record, the
 -- mark of conflicts, the length of the first part or beside 17 the length for the short buffer, the length of the second part, and
 -- beside 17 which buffer is short
-pub record MeetsTwo (a : Answer Written) (out fixes outAfter fixesAfter : Text) (refusal recordNumber mark size fixesSize buffer : ℕ) : Type 0 where
+pub record MeetsTwo (a : Answer Outputs) (out fixes outAfter fixesAfter : Text) (refusal recordNumber mark size fixesSize buffer : ℕ) : Type 0 where
   pub told : Told
   pub meets : Meets a (out ∷ fixes ∷ []) (outAfter ∷ fixesAfter ∷ []) told
   pub refusal-is : refusal ≡ told .refusal

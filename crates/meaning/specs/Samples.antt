@@ -7,7 +7,7 @@ use mathlib.Core.Option.{Option, none, some}
 use lib.ListN.{length, replicate}
 use Rattle.meaning.specs.Bytes.{Text, bytes, In, here, there}
 use Rattle.meaning.specs.Spec.{Answer, accepted, refused, Mode, Normal, Force, Negative, Spec, readSpec}
-use Rattle.meaning.specs.Buffers.{Written}
+use Rattle.meaning.specs.Buffers.{Outputs}
 use Rattle.meaning.specs.Instruction.{fetchExclude, fetchAndUpdate, pushAllMatchingBranches, pushMatching, pushExclude}
 use Rattle.meaning.specs.Prefix.{GroupPrefixes, candidates}
 use Rattle.meaning.specs.Number.{numberBytes, recordBytes, took, no, readNumber}
@@ -22,7 +22,7 @@ use Rattle.meaning.specs.Deliveries.{withinLimit, deliveries}
 use Rattle.meaning.specs.Everything.{everything}
 
 -- an answer of one text, written short
-abbrev text : Text → Answer Written
+abbrev text : Text → Answer Outputs
 text t = accepted (some t ∷ [])
 
 -- a spec, written short

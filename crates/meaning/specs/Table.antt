@@ -4,14 +4,14 @@ use mathlib.Core.List.{[], _∷_}
 use mathlib.Core.Option.{none, some}
 use Rattle.meaning.specs.Bytes.{Text, bytes}
 use Rattle.meaning.specs.Spec.{Answer, accepted, refused, Normal, Spec, readSpec}
-use Rattle.meaning.specs.Buffers.{Written}
+use Rattle.meaning.specs.Buffers.{Outputs}
 use Rattle.meaning.specs.Instruction.{fetchOnly, pushDelete}
 use Rattle.meaning.specs.Match.{unmapped, mapped, forward}
 use Rattle.meaning.specs.Entries.{instructed, prefixed, toBstring, expanded}
 use Rattle.meaning.specs.Everything.{everything}
 
 -- an answer of one text, written short
-abbrev text : Text → Answer Written
+abbrev text : Text → Answer Outputs
 text t = accepted (some t ∷ [])
 
 -- a spec with a source only, written short

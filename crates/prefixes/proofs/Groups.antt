@@ -16,7 +16,9 @@ use Rattle.meaning.specs.Lists.{recordsFrom, specRecord, readList, readSpecs}
 use Rattle.meaning.specs.Prefix.{GroupPrefixes}
 use Rattle.meaning.specs.Buffers.{MeetsOne}
 use Rattle.meaning.specs.Entries.{IsGroupPrefixes}
-use Rattle.promises.proofs.Buffers.{meets-refused}
+use Rattle.buffer.specs.declared.written.Written.{Written}
+use Rattle.buffer.specs.Answers.{refusedWith}
+use Rattle.buffer.proofs.Meets.{made-refused}
 use Rattle.spec_list.specs.declared.Group.{Group}
 use Rattle.spec_list.specs.Group.{groupMeant, AllWithin, GroupRead}
 use Rattle.spec_list.proofs.Told.{GroupPassed, group-passed, group-failed}
@@ -55,13 +57,13 @@ accepted-is op specs group e = rw e (groupTexts op group, texts-are op group, re
 
 module _ (op : ℕ) (specs : Text) (g : Group) (r : GroupRead specs g (readSpecs op specs)) (entry : Text) where
   -- a refused list leaves the buffer as it was
-  pub group-refused : (g .refusal ≡ 0 → ⊥) → MeetsPrefixes op specs entry entry (g .refusal) (g .«record») 0
-  group-refused z =
+  pub group-refused : (g .refusal ≡ 0 → ⊥) → (w : Written) → w ≡ refusedWith (g .refusal) (g .«record») → MeetsPrefixes op specs entry entry (w .refusal) (w .«record») (w .length)
+  group-refused z w e =
       let f = group-failed specs g (readSpecs op specs) r z in
       record {
         answer = refused (g .refusal) (f .carried);
         is = refused-is op specs (g .refusal) (f .carried) (f .answer);
-        meets = meets-refused (refused (g .refusal) (f .carried)) entry entry (g .refusal) (f .carried) (g .refusal) (g .«record») 0 refl refl refl (f .number) refl;
+        meets = made-refused (refused (g .refusal) (f .carried)) entry (g .refusal) (f .carried) (g .«record») w refl (f .number) e;
       }
 
   module _ (z : g .refusal ≡ 0) where

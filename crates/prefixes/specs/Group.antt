@@ -7,7 +7,7 @@ use Rattle.meaning.specs.Bytes.{Text, each}
 use Rattle.meaning.specs.Limits.{specCount}
 use Rattle.meaning.specs.Spec.{Answer, Spec}
 use Rattle.meaning.specs.Prefix.{expandPrefixes}
-use Rattle.meaning.specs.Buffers.{Written, MeetsOne}
+use Rattle.meaning.specs.Buffers.{Outputs, MeetsOne}
 use Rattle.meaning.specs.Entries.{IsGroupPrefixes}
 use Rattle.prefixes.specs.Distinct.{addAll}
 use Rattle.prefixes.specs.Table.{tableTexts, Entries}
@@ -24,6 +24,6 @@ pub record Collected (op : ℕ) (specs : Text) (group : List Spec) (table : List
 
 -- the prefix list of the group that a spec list holds, in some order, meets the buffer, and three numbers tell so
 pub record MeetsPrefixes (op : ℕ) (specs entry exit : Text) (refusal recordNumber size : ℕ) : Type 0 where
-  pub answer : Answer Written
+  pub answer : Answer Outputs
   pub is : IsGroupPrefixes op specs answer
   pub meets : MeetsOne answer entry exit refusal recordNumber size

@@ -17,6 +17,10 @@ ghost use Rattle.prefixes.specs.Group.{groupTexts, Collected, MeetsPrefi
 mod entry;
 mod table;
 
+use buffer::written::Written;
+use buffer::written::done;
+use buffer::written::refused;
+use buffer::written::short;
 use entry::Entry;
 use entry::side_entry;
 use frames::FRAMES;
@@ -33,7 +37,6 @@ use table::put_table;
 use table::table_size;
 use write::prefixes::Yield;
 use write::prefixes::yield_of;
-use write::written::Written;
 
 // Numbers of the table: three for an entry, and a spec yields a candidate for each frame at most.
 const TABLE: usize = 3 * FRAMES * SPEC_COUNT;
@@ -125,18 +128,10 @@ fn list_table(specs: &[u8], table: &[usize], count: usize, out: &mut [u8]) -> Wr
 {
     let size = table_size(specs, table, count);
     if out.len() < size {
-        return Written {
-            refusal: 17,
-            record: 0,
-            length: size as u64,
-        };
+        return short(size);
     }
     put_table(out, specs, table, count);
-    Written {
-        refusal: 0,
-        record: 0,
-        length: size as u64,
-    }
+    done(size)
 }
 
 // The prefix list of the first n specs of a table.
@@ -162,11 +157,7 @@ pub fn group_prefixes(op: u64, specs: &[u8], out: &mut [u8]) -> Written
 {
     let g = read_specs(op, specs);
     if g.refusal != 0 {
-        return Written {
-            refusal: g.refusal,
-            record: g.record,
-            length: 0,
-        };
+        return refused(g.refusal, g.record);
     }
     let group = g.specs;
     let n = g.count;

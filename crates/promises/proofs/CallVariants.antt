@@ -11,7 +11,7 @@ use lib.ListN.{length, drop}
 use lib.Seq.{take-append-seam}
 use Rattle.meaning.specs.Bytes.{Text, bytes, each, In, here, there}
 use Rattle.meaning.specs.Spec.{Answer, accepted, refused, Normal, Force, Spec}
-use Rattle.meaning.specs.Buffers.{Written}
+use Rattle.meaning.specs.Buffers.{Outputs}
 use Rattle.meaning.specs.Number.{recordBytes}
 use Rattle.meaning.specs.Rows.{Row, rowListOf}
 use Rattle.meaning.specs.Listing.{forwardRows}
@@ -40,35 +40,35 @@ in-none m = elim m [ ]
 abbrev writing : Text → Text → OneCall
 writing b before = record { before = before; after = b ++ drop (length b) before; refusal = 0; recordNumber = 0; size = length b }
 
-writing-met : (a : Answer Written) (b before : Text) → a ≡ accepted (some b ∷ []) → length b ≤ length before → MetOne a (writing b before)
+writing-met : (a : Answer Outputs) (b before : Text) → a ≡ accepted (some b ∷ []) → length b ≤ length before → MetOne a (writing b before)
 writing-met a b before e h = meets-written a before _ b 0 0 (length b) e h refl refl refl refl
 
 -- one whose buffer has no byte, which b needs
 abbrev shortOf : Text → OneCall
 shortOf b = record { before = []; after = []; refusal = 17; recordNumber = 0; size = length b }
 
-short-met : (a : Answer Written) (b : Text) → a ≡ accepted (some b ∷ []) → 0 < length b → MetOne a (shortOf b)
+short-met : (a : Answer Outputs) (b : Text) → a ≡ accepted (some b ∷ []) → 0 < length b → MetOne a (shortOf b)
 short-met a b e h = meets-short a [] [] b 17 0 (length b) e h refl refl refl refl
 
 -- one that writes conflicts over a buffer of those bytes
 abbrev conflictsIn : Text → TwoCall
 conflictsIn b = record { out = b; fixes = []; outAfter = b ++ drop (length b) b; fixesAfter = []; refusal = 0; recordNumber = 0; mark = 1; size = length b; fixesSize = 0; buffer = 0 }
 
-conflicts-met : (a : Answer Written) (b : Text) → a ≡ accepted (some b ∷ none ∷ []) → MetTwo a (conflictsIn b)
+conflicts-met : (a : Answer Outputs) (b : Text) → a ≡ accepted (some b ∷ none ∷ []) → MetTwo a (conflictsIn b)
 conflicts-met a b e = meets-two-conflicts a b [] _ [] b 0 0 1 (length b) 0 0 e (omega arith) refl refl refl refl refl refl refl refl
 
 -- one that writes kept rows and no fixes
 abbrev keptIn : Text → TwoCall
 keptIn b = record { out = b; fixes = []; outAfter = b ++ drop (length b) b; fixesAfter = []; refusal = 0; recordNumber = 0; mark = 0; size = length b; fixesSize = 0; buffer = 0 }
 
-kept-met : (a : Answer Written) (b : Text) → a ≡ accepted (some b ∷ some [] ∷ []) → MetTwo a (keptIn b)
+kept-met : (a : Answer Outputs) (b : Text) → a ≡ accepted (some b ∷ some [] ∷ []) → MetTwo a (keptIn b)
 kept-met a b e = meets-two-passes a b [] _ [] b [] 0 0 0 (length b) 0 0 e (omega arith) (omega arith) refl refl refl refl refl refl refl refl
 
 -- one whose buffers have no byte
 abbrev noRoom : Text → TwoCall
 noRoom b = record { out = []; fixes = []; outAfter = []; fixesAfter = []; refusal = 17; recordNumber = 0; mark = 0; size = length b; fixesSize = 0; buffer = 1 }
 
-no-room-met : (a : Answer Written) (b : Text) (part : Option Text) → a ≡ accepted (some b ∷ part ∷ []) → 0 < length b → MetTwo a (noRoom b)
+no-room-met : (a : Answer Outputs) (b : Text) (part : Option Text) → a ≡ accepted (some b ∷ part ∷ []) → 0 < length b → MetTwo a (noRoom b)
 no-room-met a b part e h = meets-two-short-first a [] [] [] [] b part 17 0 0 (length b) 0 1 e h refl refl refl refl refl refl refl refl
 
 -- rows and specs, written short

@@ -13,7 +13,7 @@ use lib.Seq.{take-append-seam, drop-append-seam}
 use Rattle.meaning.specs.Bytes.{Text, keep, each, In, here}
 use Rattle.meaning.specs.Limits.{rowListBytes}
 use Rattle.meaning.specs.Spec.{Answer, accepted, refused, Spec, readSpec}
-use Rattle.meaning.specs.Buffers.{Written, short, writes, buffersAfter, Tells, Meets}
+use Rattle.meaning.specs.Buffers.{Outputs, short, writes, buffersAfter, Tells, Meets}
 use Rattle.meaning.specs.Instruction.{canonicalText}
 use Rattle.meaning.specs.Number.{recordBytes}
 use Rattle.meaning.specs.Lists.{readSpecs, readItems}
@@ -57,7 +57,7 @@ secondIn [] = []
 secondIn (t ∷ l) = firstIn l
 
 -- one buffer
-one-leaves : (a : Answer Written) (b : Text) (c : OneCall) → a ≡ accepted (some b ∷ []) → MetOne a c → c .refusal ≡ 0 → Leaves (c .before) (c .after) b (c .size)
+one-leaves : (a : Answer Outputs) (b : Text) (c : OneCall) → a ≡ accepted (some b ∷ []) → MetOne a c → c .refusal ≡ 0 → Leaves (c .before) (c .after) b (c .size)
 unfolding firstIn
 one-leaves a b c e m z =
     let n : Meets (accepted (some b ∷ [])) (c .before ∷ []) (c .after ∷ []) (m .told) = rw e at (m .meets) in
@@ -74,7 +74,7 @@ record LeavesConflicts (b : Text) (c : TwoCall) : Type 0 where
   second-alone : c .fixesAfter ≡ c .fixes
   second-none : c .fixesSize ≡ 0
 
-two-conflicts : (a : Answer Written) (b : Text) (c : TwoCall) → a ≡ accepted (some b ∷ none ∷ []) → MetTwo a c → c .refusal ≡ 0 → LeavesConflicts b c
+two-conflicts : (a : Answer Outputs) (b : Text) (c : TwoCall) → a ≡ accepted (some b ∷ none ∷ []) → MetTwo a c → c .refusal ≡ 0 → LeavesConflicts b c
 unfolding firstIn secondIn
 two-conflicts a b c e m z =
     let n : Meets (accepted (some b ∷ none ∷ [])) (c .out ∷ c .fixes ∷ []) (c .outAfter ∷ c .fixesAfter ∷ []) (m .told) = rw e at (m .meets) in
@@ -96,7 +96,7 @@ record LeavesBoth (b f : Text) (c : TwoCall) : Type 0 where
   first-left : Leaves (c .out) (c .outAfter) b (c .size)
   second-left : Leaves (c .fixes) (c .fixesAfter) f (c .fixesSize)
 
-two-passes : (a : Answer Written) (b f : Text) (c : TwoCall) → a ≡ accepted (some b ∷ some f ∷ []) → MetTwo a c → c .refusal ≡ 0 → LeavesBoth b f c
+two-passes : (a : Answer Outputs) (b f : Text) (c : TwoCall) → a ≡ accepted (some b ∷ some f ∷ []) → MetTwo a c → c .refusal ≡ 0 → LeavesBoth b f c
 unfolding firstIn secondIn
 two-passes a b f c e m z =
     let n : Meets (accepted (some b ∷ some f ∷ [])) (c .out ∷ c .fixes ∷ []) (c .outAfter ∷ c .fixesAfter ∷ []) (m .told) = rw e at (m .meets) in
@@ -115,33 +115,33 @@ two-passes a b f c e m z =
 -- unless refused
 
 -- a call that tells no refusal has an answer that is accepted
-one-accepted : (a : Answer Written) (c : OneCall) → Above a → MetOne a c → c .refusal ≡ 0 → (w : Written) × (a ≡ accepted w)
+one-accepted : (a : Answer Outputs) (c : OneCall) → Above a → MetOne a c → c .refusal ≡ 0 → (w : Outputs) × (a ≡ accepted w)
 one-accepted (accepted w) c h m z = (w, refl)
 one-accepted (refused n r) c h m z = absurd (omega (arith, m .meets .tells .refusal-is, m .refusal-is))
 
-two-accepted : (a : Answer Written) (c : TwoCall) → Above a → MetTwo a c → c .refusal ≡ 0 → (w : Written) × (a ≡ accepted w)
+two-accepted : (a : Answer Outputs) (c : TwoCall) → Above a → MetTwo a c → c .refusal ≡ 0 → (w : Outputs) × (a ≡ accepted w)
 two-accepted (accepted w) c h m z = (w, refl)
 two-accepted (refused n r) c h m z = absurd (omega (arith, m .meets .tells .refusal-is, m .refusal-is))
 
-read-spec : (t : Text) (w : Written) → toBstring 0 t ≡ accepted w → (s : Spec) × (readSpec 0 t ≡ accepted s)
+read-spec : (t : Text) (w : Outputs) → toBstring 0 t ≡ accepted w → (s : Spec) × (readSpec 0 t ≡ accepted s)
 unfolding toBstring
 read-spec t w e = let x = and-accepted (readSpec 0 t) _ e in (x .0, x .1)
 
-read-lhs : (specs items : Text) (w : Written) → matchLhs 0 specs items ≡ accepted w → ReadsItems specs items
+read-lhs : (specs items : Text) (w : Outputs) → matchLhs 0 specs items ≡ accepted w → ReadsItems specs items
 unfolding matchLhs
 read-lhs specs items w e =
     let x = and-accepted (readSpecs 0 specs) _ e in
     let y = and-accepted (readItems items) _ (x .2) in
     record { group = x .0; names = y .0; group-is = x .1; names-are = y .1 }
 
-read-rhs : (specs items : Text) (w : Written) → matchRhs 0 specs items ≡ accepted w → ReadsItems specs items
+read-rhs : (specs items : Text) (w : Outputs) → matchRhs 0 specs items ≡ accepted w → ReadsItems specs items
 unfolding matchRhs
 read-rhs specs items w e =
     let x = and-accepted (readSpecs 0 specs) _ e in
     let y = and-accepted (readItems items) _ (x .2) in
     record { group = x .0; names = y .0; group-is = x .1; names-are = y .1 }
 
-read-validated : (specs list : Text) (w : Written) → validated 0 specs list ≡ accepted w → ReadsRows specs list
+read-validated : (specs list : Text) (w : Outputs) → validated 0 specs list ≡ accepted w → ReadsRows specs list
 unfolding validated verdictOn
 read-validated specs list w e =
     let v = and-accepted (verdictOn 0 specs list) _ e in
@@ -267,10 +267,10 @@ map-back-told specs items others group names otherNames there c back e f g rever
 -- canonical texts told
 
 -- a call meets an answer exactly when it meets an equal one
-same-one : {a b : Answer Written} → a ≡ b → (c : OneCall) → MetOne a c ↔ MetOne b c
+same-one : {a b : Answer Outputs} → a ≡ b → (c : OneCall) → MetOne a c ↔ MetOne b c
 same-one e c = ((λ m. rw (← e) m), (λ m. rw e m))
 
-same-two : {a b : Answer Written} → a ≡ b → (c : TwoCall) → MetTwo a c ↔ MetTwo b c
+same-two : {a b : Answer Outputs} → a ≡ b → (c : TwoCall) → MetTwo a c ↔ MetTwo b c
 same-two e c = ((λ m. rw (← e) m), (λ m. rw e m))
 
 text-is : (t : Text) (s : Spec) → readSpec 0 t ≡ accepted s → toBstring 0 t ≡ accepted (some (canonicalText 0 s) ∷ [])

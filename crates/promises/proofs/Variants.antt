@@ -12,7 +12,7 @@ use lib.ListN.{length, replicate, length-append, length-replicate}
 use Rattle.meaning.specs.Bytes.{Text, bytes, any, keep, each, numberedFrom, In, here, there}
 use Rattle.meaning.specs.Limits.{specBytes, nameBytes, specListBytes, rowListBytes, specCount, largestNumber}
 use Rattle.meaning.specs.Spec.{Answer, accepted, refused, Mode, Normal, Force, Negative, Spec, isForce, readSpec}
-use Rattle.meaning.specs.Buffers.{Written}
+use Rattle.meaning.specs.Buffers.{Outputs}
 use Rattle.meaning.specs.Number.{numberBytes, textBytes, recordBytes}
 use Rattle.meaning.specs.Lists.{readSpecs, readItems}
 use Rattle.meaning.specs.Rows.{Row, rowBytes, rowListOf}
@@ -315,7 +315,7 @@ canonical-any-list f =
     refused-accepted (sym (specs-long 0 (canonicalList (replicate 16 (grown letters))) (lit≤ tt) sixteen-long) ∙ q .1)
 
 -- how many bytes an answer has for the first buffer
-firstLength : Answer Written → ℕ
+firstLength : Answer Outputs → ℕ
 firstLength (accepted []) = 0
 firstLength (accepted (none ∷ l)) = 0
 firstLength (accepted (some t ∷ l)) = length t

@@ -10,7 +10,7 @@ use lib.ListN.{length, take, drop}
 use Rattle.meaning.specs.Bytes.{Text, bytes, _and_, _or_, keep, each, begins, present, orEmpty, In}
 use Rattle.meaning.specs.Limits.{specBytes}
 use Rattle.meaning.specs.Spec.{Answer, accepted, Spec, isNegative, starred}
-use Rattle.meaning.specs.Buffers.{Written, MeetsOne, MeetsTwo}
+use Rattle.meaning.specs.Buffers.{Outputs, MeetsOne, MeetsTwo}
 use Rattle.meaning.specs.Instruction.{canonicalText}
 use Rattle.meaning.specs.Number.{recordBytes}
 use Rattle.meaning.specs.Lists.{readSpecs, readItems}
@@ -97,7 +97,7 @@ pub record OneCall : Type 0 where
   pub size : ℕ
 
 -- the call meets this answer: what the contract of an entry ensures
-abbrev pub MetOne : Answer Written → OneCall → Type 0
+abbrev pub MetOne : Answer Outputs → OneCall → Type 0
 MetOne a c = MeetsOne a (c .before) (c .after) (c .refusal) (c .recordNumber) (c .size)
 
 -- the bytes that it answers: as many at the front of its buffer as it tells
@@ -125,7 +125,7 @@ pub record TwoCall : Type 0 where
   pub buffer : ℕ
 
 -- the call meets this answer
-abbrev pub MetTwo : Answer Written → TwoCall → Type 0
+abbrev pub MetTwo : Answer Outputs → TwoCall → Type 0
 MetTwo a c = MeetsTwo a (c .out) (c .fixes) (c .outAfter) (c .fixesAfter) (c .refusal) (c .recordNumber) (c .mark) (c .size) (c .fixesSize) (c .buffer)
 
 -- the bytes of rows or conflicts that it answers

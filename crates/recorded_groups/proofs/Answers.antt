@@ -14,7 +14,7 @@ use Rattle.meaning.specs.Number.{recordBytes}
 use Rattle.meaning.specs.Rows.{rowListOf}
 use Rattle.meaning.specs.Lists.{readSpecs, readItems}
 use Rattle.meaning.specs.Listing.{forwardRows, reverseRows}
-use Rattle.meaning.specs.Buffers.{Written}
+use Rattle.meaning.specs.Buffers.{Outputs}
 use Rattle.meaning.specs.Entries.{_andThen_, GroupPrefixBytes, IsGroupPrefixes, matchLhs, matchRhs}
 use Rattle.text.proofs.Rests.{rest-cons, rest-end}
 use Rattle.recorded.specs.declared.field.Next.{Next}
@@ -40,7 +40,7 @@ module _ (told : Text) (at op : ℕ) (specs items : Text) (r : Next) (n : ℕ) w
   rhs-within f e = let s : AnswerStands told at (matchRhs op specs items) n = rw e at f in s .stands .within
 
 -- an answer that is one text tells it
-same-text : (b c : Text) → _≡_ {A = Answer Written} (accepted (some b ∷ [])) (accepted (some c ∷ [])) → b ≡ c
+same-text : (b c : Text) → _≡_ {A = Answer Outputs} (accepted (some b ∷ [])) (accepted (some c ∷ [])) → b ≡ c
 same-text b c e = cc
 
 same-answer : {a b c x y z : Text} → a ≡ x → b ≡ y → c ≡ z → answerTexts a b c ≡ answerTexts x y z
@@ -68,7 +68,7 @@ module _ (op : ℕ) (specs items : Text) where
   unfolding matchRhs
   back-is group names e f = rw (e, f)
 
-  prefixes-of : (group : List Spec) → readSpecs op specs ≡ accepted group → (answer : Answer Written) → IsGroupPrefixes op specs answer → GroupPrefixBytes op (accepted group) answer
+  prefixes-of : (group : List Spec) → readSpecs op specs ≡ accepted group → (answer : Answer Outputs) → IsGroupPrefixes op specs answer → GroupPrefixBytes op (accepted group) answer
   unfolding IsGroupPrefixes
   prefixes-of group e answer g = rw e at g
 

@@ -12,7 +12,7 @@ use Rattle.meaning.specs.Number.{recordBytes}
 use Rattle.meaning.specs.Rows.{rowListOf}
 use Rattle.meaning.specs.Lists.{readSpecs, readItems}
 use Rattle.meaning.specs.Listing.{forwardRows, reverseRows}
-use Rattle.meaning.specs.Buffers.{Written, refuses, Tells, MeetsOne}
+use Rattle.meaning.specs.Buffers.{Outputs, refuses, Tells, MeetsOne}
 use Rattle.meaning.specs.Entries.{_andThen_, GroupPrefixBytes, IsGroupPrefixes, matchLhs, matchRhs}
 use Rattle.text.proofs.Rests.{rest-cons}
 use Rattle.list.proofs.Refusals.{specs-refusal, items-refusal}
@@ -74,11 +74,11 @@ front-found s at out refusal size (At next) z f = record { passes = z; stands = 
 front-found s at out refusal size Differs z f = tt
 
 -- an answer is one text, or a refusal with a number above 0
-data OneText (answer : Answer Written) : Type 0 where
+data OneText (answer : Answer Outputs) : Type 0 where
   is-text : (b : Text) → answer ≡ accepted (some b ∷ []) → OneText answer
   is-refusal : (n : ℕ) (r : Option ℕ) → 0 < n → answer ≡ refused n r → OneText answer
 
-module _ (answer : Answer Written) (entry exit : Text) (refusal recordNumber size : ℕ) (m : MeetsOne answer entry exit refusal recordNumber size) where
+module _ (answer : Answer Outputs) (entry exit : Text) (refusal recordNumber size : ℕ) (m : MeetsOne answer entry exit refusal recordNumber size) where
   -- a call that refuses nothing has written it
   wrote : refusal ≡ 0 → OneText answer → answer ≡ accepted (some (take size exit) ∷ [])
   wrote z (is-text b e) = rw (one b entry exit refusal recordNumber size (rw e at m) z .is) e
@@ -115,15 +115,15 @@ module _ (op : ℕ) (specs items entry exit : Text) (refusal recordNumber size :
       answer-found (matchRhs op specs items) entry exit refusal recordNumber size m
       (two-lists (λ group names. rowListOf (reverseRows group names)) (readSpecs op specs) (specs-refusal op specs) (readItems items) (items-refusal items)) s at r f
 
-prefix-list : (op : ℕ) (a : Answer (List Spec)) → Positive a → (answer : Answer Written) → GroupPrefixBytes op a answer → OneText answer
+prefix-list : (op : ℕ) (a : Answer (List Spec)) → Positive a → (answer : Answer Outputs) → GroupPrefixBytes op a answer → OneText answer
 prefix-list op (refused n r) p answer e = is-refusal n r (p n r refl) e
 prefix-list op (accepted group) p answer g = is-text (recordBytes (g .0)) (g .2)
 
-one-prefix-list : (op : ℕ) (specs : Text) (answer : Answer Written) → IsGroupPrefixes op specs answer → OneText answer
+one-prefix-list : (op : ℕ) (specs : Text) (answer : Answer Outputs) → IsGroupPrefixes op specs answer → OneText answer
 unfolding IsGroupPrefixes
 one-prefix-list op specs answer g = prefix-list op (readSpecs op specs) (specs-refusal op specs) answer g
 
-lists-as : (op : ℕ) (specs : Text) (a b : Answer Written) → a ≡ b → IsGroupPrefixes op specs a → IsGroupPrefixes op specs b
+lists-as : (op : ℕ) (specs : Text) (a b : Answer Outputs) → a ≡ b → IsGroupPrefixes op specs a → IsGroupPrefixes op specs b
 lists-as op specs a b e g = rw e at g
 
 pub prefixes-found : (op : ℕ) (specs entry exit : Text) (refusal recordNumber size : ℕ) (s : Text) (at : ℕ) (r : Next) → FrontFound s at exit refusal size r → MeetsPrefixes op specs entry exit refusal recordNumber size → PrefixesFound s at op specs r

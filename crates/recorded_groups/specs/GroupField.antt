@@ -6,7 +6,7 @@ use mathlib.Core.Option.{some}
 use lib.ListN.{take, drop}
 use Rattle.meaning.specs.Bytes.{Text}
 use Rattle.meaning.specs.Spec.{Answer, accepted}
-use Rattle.meaning.specs.Buffers.{Written}
+use Rattle.meaning.specs.Buffers.{Outputs}
 use Rattle.meaning.specs.Entries.{matchRhs, IsGroupPrefixes}
 use Rattle.recorded.specs.declared.field.Next.{Next}
 use Rattle.recorded.specs.declared.field.Next.the-variants.{At, Differs}
@@ -34,13 +34,13 @@ FrontFound s at out refusal size (At next) = FrontStands s at out refusal size n
 FrontFound s at out refusal size Differs = Unit {0}
 
 -- an answer is one text, which stands in s
-pub record AnswerStands (s : Text) (at : ℕ) (answer : Answer Written) (next : ℕ) : Type 0 where
+pub record AnswerStands (s : Text) (at : ℕ) (answer : Answer Outputs) (next : ℕ) : Type 0 where
   pub text : Text
   pub is : answer ≡ accepted (some text ∷ [])
   pub stands : Stands s at (sized text) next
 
 -- where an answer agrees, it stands there
-abbrev pub AnswerFound : Text → ℕ → Answer Written → Next → Type 0
+abbrev pub AnswerFound : Text → ℕ → Answer Outputs → Next → Type 0
 AnswerFound s at answer (At next) = AnswerStands s at answer next
 AnswerFound s at answer Differs = Unit {0}
 

@@ -6,13 +6,13 @@ ghost use lib.ListN.{length, drop};
 ghost use Rattle.meaning.specs.Entries.{matchLhs, matchRhs};
 ghost use Rattle.recorded_groups.specs.GroupRecord.{IsGroupAnswer, IsGroupRecord};
 ghost use Rattle.recorded_groups.specs.GroupField.{TextFound, FrontFound, AnswerFound, PrefixesFound, BackThere};
+use buffer::written::Written;
 use match_group::match_lhs;
 use match_group::match_rhs;
 use prefixes::group_prefixes;
 use recorded::field::Next;
 use recorded::field::text_field;
 use recorded::field::wide;
-use write::written::Written;
 
 // Where the text at `at` ends, its length before it; it differs where the record ends first.
 fn text_end(told: &[u8], at: usize) -> Next

@@ -16,6 +16,7 @@ use answers::SpecAnswer;
 use answers::instruction_answer;
 use answers::prefix_answer;
 use answers::spec_answer;
+use buffer::written::Written;
 use match_group::match_lhs;
 use match_group::match_rhs;
 use parse::parse;
@@ -28,7 +29,6 @@ use view::Part;
 use view::source;
 use write::canonical::to_bstring;
 use write::prefixes::expand_prefixes;
-use write::written::Written;
 
 // Reads one spec for an operation, 0 fetch or 1 push.
 #[no_mangle]

@@ -11,6 +11,8 @@ use Rattle.meaning.specs.Number.{numberBytes, textBytes, recordBytes}
 use Rattle.meaning.specs.Prefix.{candidates, yielded, expandPrefixes}
 use Rattle.meaning.specs.Buffers.{MeetsOne}
 use Rattle.meaning.specs.Entries.{expanded}
+use Rattle.buffer.specs.declared.written.Written.{Written}
+use Rattle.buffer.specs.Answers.{refusedWith}
 use Rattle.buffer.specs.Splice.{splice}
 use Rattle.buffer.proofs.Splices.{splice-none}
 use Rattle.number.proofs.Texts.{number-room, text-room, text-put}
@@ -149,6 +151,6 @@ module _ (op : ℕ) (t : Text) (answer : Parsed) (ea : answer ≡ parsed op t) (
   expanded-accepted = spec-accepted (λ s. recordBytes (expandPrefixes op s)) op t answer ea entry
 
   -- a refused one leaves the buffer as it was
-  pub expanded-refused : (n : ℕ) → answer ≡ Refused n → MeetsOne (expanded op t) entry entry n 0 0
+  pub expanded-refused : (n : ℕ) (w : Written) → answer ≡ Refused n → w ≡ refusedWith n 0 → MeetsOne (expanded op t) entry entry (w .refusal) (w .«record») (w .length)
   unfolding expanded
   expanded-refused = spec-refused (λ s. recordBytes (expandPrefixes op s)) op t answer ea entry

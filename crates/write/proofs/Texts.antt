@@ -12,6 +12,8 @@ use Rattle.meaning.specs.Spec.{accepted, isNegative, isForce, push}
 use Rattle.meaning.specs.Instruction.{instructionText, canonicalText}
 use Rattle.meaning.specs.Buffers.{MeetsOne}
 use Rattle.meaning.specs.Entries.{toBstring}
+use Rattle.buffer.specs.declared.written.Written.{Written}
+use Rattle.buffer.specs.Answers.{refusedWith}
 use Rattle.buffer.specs.Splice.{splice}
 use Rattle.buffer.proofs.Splices.{splice-none}
 use Rattle.buffer.proofs.Pairs.{pair-first, pair-second, pair-put}
@@ -229,6 +231,6 @@ module _ (op : ℕ) (t : Text) (answer : Parsed) (ea : answer ≡ parsed op t) (
   bstring-accepted = spec-accepted (canonicalText op) op t answer ea entry
 
   -- a refused one leaves the buffer as it was
-  pub bstring-refused : (n : ℕ) → answer ≡ Refused n → MeetsOne (toBstring op t) entry entry n 0 0
+  pub bstring-refused : (n : ℕ) (w : Written) → answer ≡ Refused n → w ≡ refusedWith n 0 → MeetsOne (toBstring op t) entry entry (w .refusal) (w .«record») (w .length)
   unfolding toBstring
   bstring-refused = spec-refused (canonicalText op) op t answer ea entry

@@ -15,7 +15,10 @@ ghost use Rattle.refspec.specs.Instructions.{sideText};
 ghost use Rattle.write.specs.Canonical.{onePiece, twoPieces, signText, colonText, piecesOf, PiecesWithin, piecesText};
 use super::side::put_side;
 use super::side::side_size;
-use super::written::Written;
+use buffer::written::Written;
+use buffer::written::done;
+use buffer::written::refused;
+use buffer::written::short;
 use parse::Parsed;
 use parse::parse;
 use parse::types::RefSpec;
@@ -185,18 +188,10 @@ fn write_to(op: u64, spec: &[u8], r: RefSpec, out: &mut [u8]) -> Written
     let p = pieces_of(instruction_of(op, r));
     let size = pieces_size(spec, p);
     if out.len() < size {
-        return Written {
-            refusal: 17,
-            record: 0,
-            length: size as u64,
-        };
+        return short(size);
     }
     put_pieces(out, spec, p);
-    Written {
-        refusal: 0,
-        record: 0,
-        length: size as u64,
-    }
+    done(size)
 }
 
 // The canonical text of a spec, for an operation, 0 fetch or 1 push.
@@ -205,10 +200,6 @@ pub fn to_bstring(op: u64, spec: &[u8], out: &mut [u8]) -> Written
 {
     match parse(op, spec) {
         Parsed::Spec(r) => write_to(op, spec, r, out),
-        Parsed::Refused(n) => Written {
-            refusal: n,
-            record: 0,
-            length: 0,
-        },
+        Parsed::Refused(n) => refused(n, 0),
     }
 }

@@ -2,4 +2,3 @@
 pub mod canonical;
 pub mod prefixes;
 mod side;
-pub mod written;

@@ -16,7 +16,10 @@ ghost use Rattle.refspec.specs.Instructions.{sideText};
 ghost use Rattle.write.specs.Yields.{yieldWithout, yieldAt, yieldPlace, yieldMeant, YieldWithin};
 use super::side::put_side;
 use super::side::side_size;
-use super::written::Written;
+use buffer::written::Written;
+use buffer::written::done;
+use buffer::written::refused;
+use buffer::written::short;
 use frames::candidates_size;
 use frames::put_candidates;
 use parse::Parsed;
@@ -144,18 +147,10 @@ fn expand(op: u64, spec: &[u8], r: RefSpec, out: &mut [u8]) -> Written
     let y = yield_of(spec, remote(op, r));
     let size = yield_size(spec, y);
     if out.len() < size {
-        return Written {
-            refusal: 17,
-            record: 0,
-            length: size as u64,
-        };
+        return short(size);
     }
     put_yield(out, spec, y);
-    Written {
-        refusal: 0,
-        record: 0,
-        length: size as u64,
-    }
+    done(size)
 }
 
 // The prefixes that a spec yields, as a prefix list, for an operation, 0 fetch or 1 push.
@@ -164,10 +159,6 @@ pub fn expand_prefixes(op: u64, spec: &[u8], out: &mut [u8]) -> Written
 {
     match parse(op, spec) {
         Parsed::Spec(r) => expand(op, spec, r, out),
-        Parsed::Refused(n) => Written {
-            refusal: n,
-            record: 0,
-            length: 0,
-        },
+        Parsed::Refused(n) => refused(n, 0),
     }
 }

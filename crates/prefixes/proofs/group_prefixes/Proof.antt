@@ -7,6 +7,9 @@ use Rattle.prefixes.proofs.group_prefixes.Tie as tie
 read-specs-requires : tie.Need-read-specs-requires
 read-specs-requires c κs = search needs
 
+refused-requires : tie.Need-refused-requires
+refused-requires c κs = search needs
+
 returns : tie.Need-returns
 returns c = search group-refused
 
@@ -21,4 +24,4 @@ returns-2 c = search group-accepted
 
 pub group-prefixes-spec : {M : Type 1} → statement M
 group-prefixes-spec =
-    tie.close (tie.spec read-specs-requires returns list-group-requires same-length returns-2)
+    tie.close (tie.spec read-specs-requires refused-requires returns list-group-requires same-length returns-2)

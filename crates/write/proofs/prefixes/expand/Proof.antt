@@ -1,7 +1,7 @@
 -- The yield of the side denotes the prefixes, which are measured before they are written. Assumes nothing.
 use Rattle.refspec.proofs.Fronts.{remote-within}
 use Rattle.write.proofs.Lists.{yield-within, expand-list}
-use Rattle.write.proofs.Meets.{made-room, made-short, made-written}
+use Rattle.buffer.proofs.Meets.{made-room, made-short, made-written}
 use borrow.Author.Needs.{needs}
 use Rattle.write.proofs.prefixes.expand.Statement.{statement}
 use Rattle.write.proofs.prefixes.expand.Tie as tie
@@ -15,11 +15,17 @@ yield-of-requires c κs = search remote-within
 yield-size-requires : tie.Need-yield-size-requires
 yield-size-requires c κs = (search yield-within, search needs)
 
+short-requires : tie.Need-short-requires
+short-requires c κs = search needs
+
 returns : tie.Need-returns
 returns c = search (made-short, expand-list)
 
 put-yield-requires : tie.Need-put-yield-requires
 put-yield-requires c κs = (search yield-within, search needs, search made-room)
+
+done-requires : tie.Need-done-requires
+done-requires c κs = search needs
 
 same-length : tie.Need-same-length
 same-length c = search needs
@@ -34,7 +40,9 @@ expand-spec =
     remote-requires
     yield-of-requires
     yield-size-requires
+    short-requires
     returns
     put-yield-requires
+    done-requires
     same-length
     returns-2)

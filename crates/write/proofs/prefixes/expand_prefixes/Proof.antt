@@ -17,6 +17,9 @@ expand-requires c κs = (search read-within, search read-size)
 enum-known-n : tie.Need-enum-known-n
 enum-known-n c = search needs
 
+refused-requires : tie.Need-refused-requires
+refused-requires c κs = search needs
+
 same-length : tie.Need-same-length
 same-length c = search needs
 
@@ -34,6 +37,7 @@ expand-prefixes-spec =
     enum-known-r
     expand-requires
     enum-known-n
+    refused-requires
     same-length
     returns
     returns-2)
