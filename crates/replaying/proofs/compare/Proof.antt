@@ -1,10 +1,10 @@
--- `compare` is safe: n bytes are within the buffer. Assumes nothing.
+-- `replaying::compare` is safe: n bytes are within the buffer. Assumes nothing.
 use borrow.Author.Needs.{needs}
 use mathlib.Core.Path.{sym}
 use native.Mathlib.Omega.{arith}
 use lib.Seq.{length-take-le}
-use Rattle.replay_groups.proofs.compare.Statement.{statement}
-use Rattle.replay_groups.proofs.compare.Tie as tie
+use Rattle.replaying.proofs.compare.Statement.{statement}
+use Rattle.replaying.proofs.compare.Tie as tie
 
 large-buffer-requires : tie.Need-large-buffer-requires
 large-buffer-requires c κs = search needs

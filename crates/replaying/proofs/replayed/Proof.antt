@@ -1,14 +1,14 @@
--- `replayed` is safe and ends: each turn counts at most one record, and the turns that are left fall. Assumes nothing.
+-- `replaying::replayed` is safe and ends: each turn counts at most one record, and the turns that are left fall. Assumes nothing.
 use Prim.Native.Nat.{_+_, _≤_}
 use native.Mathlib.Omega.{arith}
-use Rattle.replay.proofs.replayed.Statement.{statement}
-use Rattle.replay.proofs.replayed.Tie as tie
+use Rattle.replaying.proofs.replayed.Statement.{statement}
+use Rattle.replaying.proofs.replayed.Tie as tie
 
 abbrev Inv-loop : tie.InvT-loop
-Inv-loop t₀ turns₀ t turns = (t .read + turns ≤ 18446744073709551615) × (t .differ ≤ t .read)
+Inv-loop kind t₀ turns₀ t turns = (t .read + turns ≤ 18446744073709551615) × (t .differ ≤ t .read)
 
 abbrev μ-loop : tie.MeasureT-loop
-μ-loop t₀ turns₀ t turns = turns
+μ-loop kind t₀ turns₀ t turns = turns
 
 loop-holds : tie.Need-loop-holds Inv-loop μ-loop
 loop-holds c = (omega arith, omega arith)
@@ -29,10 +29,10 @@ loop-again : tie.Need-loop-again Inv-loop μ-loop
 loop-again c = (omega arith, omega arith)
 
 returns : tie.Need-returns Inv-loop μ-loop
-returns c = tt
+returns c = omega arith
 
 returns-2 : tie.Need-returns-2 Inv-loop μ-loop
-returns-2 c = tt
+returns-2 c = omega arith
 
 pub replayed-spec : {M : Type 1} → statement M
 replayed-spec =
