@@ -15,7 +15,8 @@ use Rattle.buffer.proofs.Writing.{Writing, writing-starts, writing-room, writin
 use Rattle.number.proofs.Bytes.{bytes-few}
 use Rattle.number.proofs.Texts.{text-size, number-room, text-room, text-put, text-ends}
 use Rattle.parse.specs.Places.{partAt}
-use Rattle.keys.specs.declared.fields.RowFields.{RowFields}
+use Rattle.row_fields.specs.declared.RowPlace.{RowPlace}
+use Rattle.row_fields.specs.Fields.{rowMeant}
 use Rattle.keys.specs.Keys.{rowAt, Finds}
 use Rattle.conflict.specs.Sizes.{sourceMost}
 use Rattle.conflict.specs.Shared.{sourceAt}
@@ -56,10 +57,10 @@ module _ (x k y l : ℕ) (ex : x ≡ length (numberBytes k)) (ey : y ≡ length 
   three-fit z m ez = omega (arith, few x k ex, few y l ey, few z m ez)
 
 -- the source of the row at a place, by its fields
-module _ (s : Text) (p : ℕ) (f : RowFields) (w : Finds s (rowAt s p) f) where
+module _ (s : Text) (p : ℕ) (f : RowPlace) (w : Finds s (rowAt s p) f) where
   source-pieces : sourceAt s p ≡ numberBytes (f .spec) ++ (numberBytes (f .kind) ++ textBytes (partAt s (f .«src_at») (f .«src_len»)))
-  unfolding sourceAt sourceBytes
-  source-pieces = rw (w .spec-is, w .kind-is, w .source-is)
+  unfolding sourceAt sourceBytes rowMeant
+  source-pieces = rw (← w .means)
 
   module _ (short : length s ≤ rowListBytes) (x y z : ℕ) (ex : x ≡ length (numberBytes (f .spec))) (ey : y ≡ length (numberBytes (f .kind))) (ez : z ≡ length (numberBytes (f .«src_len»))) where
     pub source-fits : Fits w64 (x + y + z + f .«src_len»)

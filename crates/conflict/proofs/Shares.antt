@@ -7,12 +7,12 @@ use native.Mathlib.Nat.{add-zero}
 use native.Mathlib.Omega.{arith}
 use mir.Val.{Fits}
 use mir.Syntax.{w64}
-use lib.ListN.{length, getD, take, length-append, length-map}
+use lib.ListN.{length, getD, take, drop, length-append, length-map}
 use lib.Seq.{length-take-le}
 use Rattle.meaning.specs.Bytes.{Text, any, keep, each, In, here, there}
 use Rattle.meaning.specs.Limits.{rowListBytes}
 use Rattle.meaning.specs.Number.{numberBytes, textBytes}
-use Rattle.meaning.specs.Rows.{Row}
+use Rattle.meaning.specs.Rows.{Row, readFront}
 use Rattle.meaning.specs.Validation.{differ, rowsOnto, twoDiffer, inConflict, firstSeen, rowSource, conflictOn, sourceBytes, conflictBytes}
 use Rattle.promises.proofs.Laws.{in-any, keep-in}
 use Rattle.promises.proofs.Conflicts.{found-two}
@@ -22,10 +22,12 @@ use Rattle.buffer.proofs.Splices.{splice-none}
 use Rattle.buffer.proofs.Writing.{Writing, writing-starts, writing-room, writing-more, written-place, written-whole}
 use Rattle.number.proofs.Bytes.{bytes-few}
 use Rattle.parse.specs.Places.{partAt}
-use Rattle.keys.specs.declared.fields.RowFields.{RowFields}
+use Rattle.row_fields.specs.declared.Stretch.{Stretch}
+use Rattle.row_fields.specs.Stages.{destinationIn, Spells}
 use Rattle.keys.specs.declared.key.Key.the-variants.{Source}
 use Rattle.order.specs.Sorting.{firstsBy}
-use Rattle.keys.specs.Keys.{rowAt, Finds, sameAt}
+use Rattle.keys.specs.Keys.{rowAt, sameAt}
+use Rattle.keys.proofs.Rows.{destination-there}
 use Rattle.conflict.specs.Sizes.{destinationMost, sourceMost, rowMost}
 use Rattle.conflict.specs.Shared.{conflictPart}
 use Rattle.conflict.specs.FirstSeen.{sourcesOn, sourcesBytes, listedBytes}
@@ -187,30 +189,30 @@ module _ (s : Text) (l : List ℕ) (run : OneRun s l) (count : ℕ) (ec : count 
   unfolding runBytes listedAt
   listed h = part-pieces (rowsAt s l) (destinationAt s (getD l 0 0)) (omega (arith, seen)) ∙ rw (sources-are s l run, ← firsts-rows s l, firsts-first s l)
 
--- the destination of the row at a place, by its fields
-module _ (s : Text) (p : ℕ) (f : RowFields) (w : Finds s (rowAt s p) f) where
-  destination-is : destinationAt s p ≡ partAt s (f .«dst_at») (f .«dst_len»)
+-- the destination of the row at a place, by its own place
+module _ (s : Text) (p : ℕ) (f : Stretch) (w : Spells s (destinationIn (readFront (drop p s))) f) where
+  destination-is : destinationAt s p ≡ partAt s (f .at) (f .len)
   unfolding destinationAt
-  destination-is = sym (w .destination-is)
+  destination-is = sym (w .is ∙ destination-there s p)
 
-  module _ (short : length s ≤ rowListBytes) (x : ℕ) (ex : x ≡ length (numberBytes (f .«dst_len»))) where
-    pub destination-fits : Fits w64 (x + f .«dst_len»)
-    destination-fits = omega (arith, bytes-few (f .«dst_len»), w .destination-within)
+  module _ (short : length s ≤ rowListBytes) (x : ℕ) (ex : x ≡ length (numberBytes (f .len))) where
+    pub destination-fits : Fits w64 (x + f .len)
+    destination-fits = omega (arith, bytes-few (f .len), w .within)
 
-    pub destination-small : x + f .«dst_len» ≤ destinationMost
-    destination-small = omega (arith, bytes-few (f .«dst_len»), w .destination-within)
+    pub destination-small : x + f .len ≤ destinationMost
+    destination-small = omega (arith, bytes-few (f .len), w .within)
 
-    pub destination-size : x + f .«dst_len» ≡ length (textBytes (destinationAt s p))
-    destination-size = rw destination-is (text-long s (f .«dst_at») (f .«dst_len») (w .destination-within) x ex)
+    pub destination-size : x + f .len ≡ length (textBytes (destinationAt s p))
+    destination-size = rw destination-is (text-long s (f .at) (f .len) (w .within) x ex)
 
   module _ (o : Text) (to : ℕ) where
-    pub destination-room : to + length (textBytes (destinationAt s p)) ≤ length o → to + length (textBytes (partAt s (f .«dst_at») (f .«dst_len»))) ≤ length o
+    pub destination-room : to + length (textBytes (destinationAt s p)) ≤ length o → to + length (textBytes (partAt s (f .at) (f .len))) ≤ length o
     destination-room h = rw destination-is at h
 
-    pub destination-put : (q : Text) → q ≡ splice o to (textBytes (partAt s (f .«dst_at») (f .«dst_len»))) → q ≡ splice o to (textBytes (destinationAt s p))
+    pub destination-put : (q : Text) → q ≡ splice o to (textBytes (partAt s (f .at) (f .len))) → q ≡ splice o to (textBytes (destinationAt s p))
     destination-put q h = rw destination-is h
 
-    pub destination-after : (k : ℕ) → k ≡ to + length (textBytes (partAt s (f .«dst_at») (f .«dst_len»))) → k ≡ to + length (textBytes (destinationAt s p))
+    pub destination-after : (k : ℕ) → k ≡ to + length (textBytes (partAt s (f .at) (f .len))) → k ≡ to + length (textBytes (destinationAt s p))
     destination-after k h = rw destination-is h
 
 -- the sizes of a destination, of a number and of the sources of at most k rows

@@ -10,11 +10,11 @@ ghost use Rattle.conflict.specs.Shared.{destinationAt, OneRun, runBytes,
 
 mod sources;
 
-use keys::fields::fields;
 use keys::key::Key;
 use order::run::keep_firsts;
 use order::run::pair_firsts;
 use order::sort::sort;
+use row_fields::destination_at;
 use sources::heads_size;
 use sources::put_sources;
 use sources::put_text;
@@ -26,8 +26,8 @@ fn destination_size(rows: &[u8], p: usize) -> usize
     requires { ⌜ length (now rows) ≤ rowListBytes ⌝ }
     ensures { λ r. ⌜ (r ≡ length (textBytes (destinationAt (now (rows .entry)) p))) × (r ≤ destinationMost) ⌝ }
 {
-    let row = fields(rows, p);
-    let len = row.dst_len;
+    let dst = destination_at(rows, p);
+    let len = dst.len;
     number::size(len) + len
 }
 
@@ -36,8 +36,8 @@ fn put_destination(out: &mut [u8], to: usize, rows: &[u8], p: usize) -> usize
     requires { ⌜ (length (now rows) ≤ rowListBytes) × (to + length (textBytes (destinationAt (now rows) p)) ≤ length (now out)) ⌝ }
     ensures { λ r. ⌜ (now (out .exit) ≡ splice (now (out .entry)) to (textBytes (destinationAt (now (rows .entry)) p))) × (r ≡ to + length (textBytes (destinationAt (now (rows .entry)) p))) ⌝ }
 {
-    let row = fields(rows, p);
-    put_text(out, to, rows, row.dst_at, row.dst_len)
+    let dst = destination_at(rows, p);
+    put_text(out, to, rows, dst.at, dst.len)
 }
 
 // How many bytes a destination takes with the rows at places, each of which has another source.

@@ -16,10 +16,11 @@ use Rattle.parse.specs.declared.types.Side.{Side}
 use Rattle.parse.specs.declared.types.Side.the-variants.{Absent, Part, Head}
 use Rattle.parse.specs.Places.{sideMeant}
 use Rattle.list.specs.declared.cursor.Cursor.{Cursor}
-use Rattle.row_list.specs.declared.RowPlace.{RowPlace}
+use Rattle.row_fields.specs.declared.RowPlace.{RowPlace}
 use Rattle.row_list.specs.declared.RowStep.{RowStep}
 use Rattle.row_list.specs.declared.RowStep.the-variants.{Row, End, Refused}
-use Rattle.row_list.specs.Rows.{rowMeant, rowStepAt, RowTaken, RowSays}
+use Rattle.row_fields.specs.Fields.{rowMeant}
+use Rattle.row_list.specs.Rows.{rowStepAt, RowTaken, RowSays}
 use Rattle.order.specs.Sorting.{Above, Ascending}
 use Rattle.keys.specs.Keys.{rowOr, rowAt}
 use Rattle.conflicts.specs.Listed.{rowsIn, RowsRead, InList}
@@ -45,9 +46,9 @@ module _ (dst : Side) (w : InList rowListBytes dst) (d : List ℕ) (n at : ℕ) 
 module _ (specs : ℕ) (s : Text) (at : ℕ) (row : RowPlace) (next : ℕ) (t : RowTaken specs s at row next) where
   -- the row that was taken is the one that begins there
   row-there : rowAt s at ≡ rowMeant s row
-  unfolding rowAt meaning.rowRecord
+  unfolding rowAt meaning.rowRecord meaning.readRow
   row-there =
-      let q = step-took (meaning.readRow (drop at s)) (λ r. need 16 (meaning.rowPasses specs r) (give r)) (t .reads 0) in
+      let q = step-took (meaning.readFront (drop at s)) (λ r. need 16 (meaning.rowPasses specs r) (give r)) (t .reads 0) in
       ap rowOr (q .2) ∙ passed (meaning.rowPasses specs (q .0)) (q .0) (q .1) (q .3)
     where
       passed : (b : Bool) (r : meaning.Row) (rest : Text) → need 16 b (give r) rest ≡ took (rowMeant s row) (drop next s) → r ≡ rowMeant s row

@@ -17,7 +17,7 @@ use Rattle.promises.proofs.Laws.{and-both}
 use Rattle.promises.proofs.Reading.{number-long}
 use Rattle.promises.proofs.Spelling.{one-spelling}
 use Rattle.number.specs.Reading.{Octets}
-use Rattle.row_list.proofs.RowStages.{octets-of}
+use Rattle.number.proofs.Round.{octets-of}
 use Rattle.conflicts.specs.Listed.{rowsIn, RowsRead}
 use Rattle.conflicts.specs.Rooms.{rowLeast, manyRows}
 use Rattle.conflicts.proofs.Walks.{list-short}

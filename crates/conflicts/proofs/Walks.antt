@@ -18,10 +18,11 @@ use Rattle.parse.specs.declared.types.Side.the-variants.{Absent, Part, Head}
 use Rattle.parse.specs.Places.{Within}
 use Rattle.list.proofs.Standing.{drop-rest}
 use Rattle.list.specs.declared.cursor.Cursor.{Cursor}
-use Rattle.row_list.specs.declared.RowPlace.{RowPlace}
+use Rattle.row_fields.specs.declared.RowPlace.{RowPlace}
 use Rattle.row_list.specs.declared.RowStep.{RowStep}
 use Rattle.row_list.specs.declared.RowStep.the-variants.{Row, End, Refused}
-use Rattle.row_list.specs.Rows.{rowMeant, rowPlace, placedRow, destinationPlace, rowStepAt, RowTaken, RowSays}
+use Rattle.row_fields.specs.Fields.{rowMeant, rowPlace, destinationPlace}
+use Rattle.row_list.specs.Rows.{placedRow, rowStepAt, RowTaken, RowSays}
 use Rattle.list.proofs.Records.{accepted-within}
 use Rattle.row_list.proofs.RowWalks.{RowsLeft, rows-left, rows-next, rows-end, rows-refused}
 use Rattle.conflicts.specs.Listed.{rowsIn, RowsRead, InList}

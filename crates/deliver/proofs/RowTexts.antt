@@ -13,8 +13,8 @@ use Rattle.parse.specs.declared.types.Side.the-variants.{Absent, Part, Head}
 use Rattle.parse.specs.Places.{sideMeant, isPresent, Within}
 use Rattle.parse.proofs.Parts.{part-of, part-length}
 use Rattle.refspec.specs.Instructions.{sideText}
-use Rattle.row_list.specs.declared.RowPlace.{RowPlace}
-use Rattle.row_list.specs.Rows.{rowMeant}
+use Rattle.row_fields.specs.declared.RowPlace.{RowPlace}
+use Rattle.row_fields.specs.Fields.{rowMeant}
 use Rattle.print.specs.Lines.{optional, rowOf}
 use Rattle.deliver.specs.Printed.{RowStands}
 

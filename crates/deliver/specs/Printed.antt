@@ -10,7 +10,7 @@ use Rattle.meaning.specs.Rows.{Row, readRows}
 use Rattle.meaning.specs.Deliveries.{rowLine, header, withinLimit, output}
 use Rattle.buffer.specs.Splice.{splice}
 use Rattle.parse.specs.Places.{Within}
-use Rattle.row_list.specs.declared.RowPlace.{RowPlace}
+use Rattle.row_fields.specs.declared.RowPlace.{RowPlace}
 
 -- the buffers that the program lends: one for the rows, one for the printed text
 pub record Lent (rows out : Text) : Type 0 where

@@ -6,7 +6,7 @@ ghost use Rattle.meaning.specs.Limits.{programBytes};
 ghost use Rattle.meaning.specs.Deliveries.{rowLine};
 ghost use Rattle.buffer.specs.Splice.{splice};
 ghost use Rattle.print.specs.Lines.{lineBytes};
-ghost use Rattle.row_list.specs.Rows.{rowMeant};
+ghost use Rattle.row_fields.specs.Fields.{rowMeant};
 ghost use Rattle.deliver.specs.Printed.{rowsIn, linesOf, printedRows, Prints, Listed, RowStands};
 use limits::PROGRAM_BYTES;
 use limits::SPEC_COUNT;
@@ -18,7 +18,7 @@ use print::line::put_header;
 use print::line::put_line;
 use print::line::put_refusal;
 use refspec::side::text_of;
-use row_list::RowPlace;
+use row_fields::RowPlace;
 use row_list::RowStep;
 use row_list::next_row;
 

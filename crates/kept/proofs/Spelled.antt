@@ -16,8 +16,9 @@ use Rattle.buffer.specs.Splice.{splice}
 use Rattle.buffer.proofs.Splices.{splice-none}
 use Rattle.number.specs.Reading.{Octets}
 use Rattle.parse.specs.Places.{sideMeant}
-use Rattle.row_list.specs.declared.RowPlace.{RowPlace}
-use Rattle.row_list.specs.Rows.{rowMeant, RowTaken}
+use Rattle.row_fields.specs.declared.RowPlace.{RowPlace}
+use Rattle.row_fields.specs.Fields.{rowMeant}
+use Rattle.row_list.specs.Rows.{RowTaken}
 use Rattle.conflicts.proofs.Spelled.{all-bytes}
 use Rattle.kept.specs.Rows.{keptBytes, fixFor, rowFix}
 

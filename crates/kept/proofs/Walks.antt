@@ -18,10 +18,11 @@ use Rattle.buffer.specs.Splice.{splice}
 use Rattle.buffer.proofs.Writing.{Writing, writing-starts, writing-room, writing-more, written-place, written-whole}
 use Rattle.parse.specs.Places.{sideMeant, Within}
 use Rattle.list.specs.declared.cursor.Cursor.{Cursor}
-use Rattle.row_list.specs.declared.RowPlace.{RowPlace}
+use Rattle.row_fields.specs.declared.RowPlace.{RowPlace}
 use Rattle.row_list.specs.declared.RowStep.{RowStep}
 use Rattle.row_list.specs.declared.RowStep.the-variants.{Row, End, Refused}
-use Rattle.row_list.specs.Rows.{rowMeant, RowTaken, RowSays}
+use Rattle.row_fields.specs.Fields.{rowMeant}
+use Rattle.row_list.specs.Rows.{RowTaken, RowSays}
 use Rattle.row_list.proofs.RowWalks.{RowsLeft, rows-left, RowNext, rows-next, rows-end, rows-refused}
 use Rattle.conflicts.specs.Listed.{rowsIn, RowsRead}
 use Rattle.conflicts.proofs.Walks.{list-short}

@@ -8,12 +8,13 @@ ghost use Rattle.meaning.specs.Rows.{rowListOf};
 ghost use Rattle.meaning.specs.Validation.{isFull, isKept, fixOf, fixBytes};
 ghost use Rattle.buffer.specs.Splice.{splice};
 ghost use Rattle.parse.specs.Places.{partAt, sideMeant, Within};
-ghost use Rattle.row_list.specs.Rows.{rowMeant, RowTaken};
+ghost use Rattle.row_fields.specs.Fields.{rowMeant};
+ghost use Rattle.row_list.specs.Rows.{RowTaken};
 ghost use Rattle.conflicts.specs.Listed.{rowsIn, RowsRead};
 ghost use Rattle.kept.specs.Rows.{keptBytes, fixOn, fixNumbers, fixFor, rowFix};
 use list::cursor::Cursor;
 use parse::types::Side;
-use row_list::RowPlace;
+use row_fields::RowPlace;
 use row_list::RowStep;
 use row_list::next_row;
 

@@ -1,5 +1,3 @@
--- `Stages`: the fields of a row, part by part. `Skips`: a destination past what stands before it. `Keys`: what keys denote, and how two
--- compare.
-pub mod Stages
-pub mod Skips
+-- `Rows`: the fields and the destination of the row at a place. `Keys`: what keys denote, and how two compare.
+pub mod Rows
 pub mod Keys

@@ -12,7 +12,7 @@ use Rattle.meaning.specs.Limits.{nameBytes, specListBytes, itemListBytes, rowLi
 use Rattle.meaning.specs.Spec.{Answer, accepted, refused, specRefusal, specOf, unless, readSpec}
 use Rattle.meaning.specs.Number.{Step, took, no, Reader, stepThen, _>>=_, give, need, readNumber, readBytes, readText}
 use Rattle.meaning.specs.Lists.{withFirst, recordThen, recordsFrom, answered, readList, specRecord, itemRecord, readSpecs, readItems}
-use Rattle.meaning.specs.Rows.{destinationAfter, readDestination, readRow, rowPasses, rowRecord, readRows}
+use Rattle.meaning.specs.Rows.{destinationAfter, readDestination, readFront, readRow, rowPasses, rowRecord, readRows}
 use Rattle.number.specs.declared.Number.{Number}
 use Rattle.number.specs.declared.Number.the-variants.{Is, Malformed}
 use Rattle.number.specs.Reading.{numberAt}
@@ -72,7 +72,7 @@ unfolding readDestination
 positive-destination = positive-then readNumber destinationAfter positive-number positive-after
 
 positive-row : Positive readRow
-unfolding readRow
+unfolding readRow readFront
 positive-row =
     positive-then readNumber _ positive-number λ i.
     positive-then readNumber _ positive-number λ s.

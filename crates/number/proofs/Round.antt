@@ -5,13 +5,20 @@ use mathlib.Core.List.{[], _∷_, _++_}
 use Prim.Native.Nat.{ℕ, zero, suc, _+_, _-_, _*_, _/_, _%_, _^_, _<_, _≤_}
 use native.Mathlib.Omega.{arith}
 use borrow.Author.Tests.{lt-ltb, le-ltb, ltb-true, ltb-false, eqb-false}
+use mir.Val.{Fits}
+use mir.Syntax.{w8}
 use lib.Dec.{eqb, ltb}
+use lib.ListN.{getD}
 use Rattle.meaning.specs.Bytes.{Text}
 use Rattle.meaning.specs.Number.{groups, numberBytes, Step, took, no, stepThen, groupBefore, readGroups, readNumber}
 use Rattle.promises.proofs.Reading.{read-number}
 use Rattle.meaning.specs.Limits.{largestNumber, numberGroups}
 use Rattle.number.specs.Reading.{Octets}
 use Rattle.number.proofs.Answers.{none-taken}
+
+-- every byte of a slice is one, as a function knows it
+pub octets-of : (s : Text) → ((i : ℕ) → Fits w8 (getD s i 0)) → Octets s
+octets-of s h i = omega (arith, h i)
 
 -- the bytes of a number, whatever follows them, are read as it
 pub read-back : (n : ℕ) (rest : Text) → n ≤ largestNumber → readNumber (numberBytes n ++ rest) ≡ took n rest

@@ -14,7 +14,7 @@ use Rattle.meaning.specs.Limits.{rowListBytes, specCount, itemCount, largestNum
 use Rattle.meaning.specs.Spec.{Answer, accepted, Spec}
 use Rattle.meaning.specs.Number.{numberBytes, textBytes, took}
 use Rattle.meaning.specs.Lists.{readSpecs, readItems, readList}
-use Rattle.meaning.specs.Rows.{Row, destinationBytes, rowBytes, rowListOf, readDestination, readRow, objectDigits, rowPasses, rowRecord, readRows}
+use Rattle.meaning.specs.Rows.{Row, destinationBytes, rowBytes, rowListOf, readDestination, readFront, readRow, objectDigits, rowPasses, rowRecord, readRows}
 use Rattle.meaning.specs.Match.{formOf, objectSource, whole, Mapped, unmapped, mapped, mapsTo}
 use Rattle.meaning.specs.Listing.{Ends, forwardEnds, reverseEnds, groupRows, objectRow, objectRows, notExcluded, forwardRows, reverseRows}
 use Rattle.meaning.specs.Entries.{matchLhs, verdictOn, validated}
@@ -127,7 +127,7 @@ row-length r =
     omega arith
 
 read-row : (r : Row) (s : Text) → Fits r → readRow (rowBytes r ++ s) ≡ took r s
-unfolding readRow rowBytes
+unfolding readRow readFront rowBytes
 read-row r s f =
     rw (append-assoc, append-assoc, append-assoc, append-assoc, read-number (r .item) _ (f .item-small), read-number (r .spec) _ (f .spec-small), read-number (r .kind) _ (f .kind-small), read-text (r .source) _ (f .source-small), read-destination (r .destination) s (f .destination-small))
 

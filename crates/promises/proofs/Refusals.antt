@@ -12,7 +12,7 @@ use Rattle.meaning.specs.Limits.{nameBytes, specListBytes, itemListBytes, rowLi
 use Rattle.meaning.specs.Spec.{Answer, accepted, refused, unless, specOf, specRefusal, readSpec}
 use Rattle.meaning.specs.Number.{Step, took, no, Reader, stepThen, _>>=_, give, need, groupBefore, readGroups, readNumber, readBytes, readText}
 use Rattle.meaning.specs.Lists.{withFirst, recordThen, recordsFrom, readList, answered, specRecord, itemRecord, readSpecs, readItems}
-use Rattle.meaning.specs.Rows.{destinationAfter, readDestination, readRow, rowPasses, rowRecord, readRows}
+use Rattle.meaning.specs.Rows.{destinationAfter, readDestination, readFront, readRow, rowPasses, rowRecord, readRows}
 use Rattle.meaning.specs.Entries.{_andThen_, toBstring, matchLhs, matchRhs, verdictOn, validated}
 
 -- a step that refuses has a number above 0
@@ -95,7 +95,7 @@ unfolding readDestination
 destination-above s = then-above (readNumber s) destinationAfter (number-above s) after-above
 
 row-above : (s : Text) → StepAbove (readRow s)
-unfolding readRow
+unfolding readRow readFront
 row-above s =
     then-above (readNumber s) _ (number-above s) λ i a.
     then-above (readNumber a) _ (number-above a) λ j b.

@@ -14,7 +14,7 @@ use Rattle.meaning.specs.Limits.{nameBytes, itemListBytes, rowListBytes, itemCo
 use Rattle.meaning.specs.Spec.{Answer, accepted, refused}
 use Rattle.meaning.specs.Number.{groups, numberBytes, textBytes, recordBytes, Step, took, no, Reader, stepThen, _>>=_, give, need, groupBefore, readGroups, readNumber, readBytes, readText}
 use Rattle.meaning.specs.Lists.{withFirst, recordThen, recordsFrom, readList, itemRecord, readItems}
-use Rattle.meaning.specs.Rows.{Row, destinationBytes, rowBytes, rowListOf, destinationAfter, readDestination, readRow, rowPasses, rowRecord, readRows}
+use Rattle.meaning.specs.Rows.{Row, destinationBytes, rowBytes, rowListOf, destinationAfter, readDestination, readFront, readRow, rowPasses, rowRecord, readRows}
 use Rattle.promises.specs.Facts.{isByte, OneSpelling, ReadRowFits, ReadRowsFit}
 use Rattle.promises.proofs.Laws.{and-left, and-right, or-cases, each-long}
 use Rattle.promises.proofs.Reading.{number-long, list-all}
@@ -105,7 +105,7 @@ destination-spelled s o r h e = let q = step-took (readNumber s) destinationAfte
 
 -- a row
 pub row-spelled : (s : Text) (x : Row) (r : Text) → every isByte s ≡ true → readRow s ≡ took x r → s ≡ rowBytes x ++ r
-unfolding readRow rowBytes
+unfolding readRow readFront rowBytes
 row-spelled s x r h e =
     let p = step-took (readNumber s) _ e in
     let a = number-spelled s (p .0) (p .1) h (p .2) in

@@ -13,7 +13,7 @@ use Rattle.meaning.specs.Limits.{nameBytes, specCount, itemCount, numberGroups}
 use Rattle.meaning.specs.Spec.{Answer, accepted, refused, readSpec}
 use Rattle.meaning.specs.Number.{Step, took, no, Reader, stepThen, _>>=_, give, need, groupBefore, readGroups, readNumber, readBytes, readText}
 use Rattle.meaning.specs.Lists.{withFirst, recordThen, recordsFrom, answered, readList, specRecord, itemRecord}
-use Rattle.meaning.specs.Rows.{destinationAfter, readDestination, readRow, rowPasses, rowRecord}
+use Rattle.meaning.specs.Rows.{destinationAfter, readDestination, readFront, readRow, rowPasses, rowRecord}
 unfoldable pub use Rattle.promises.specs.Facts.{records}
 use Rattle.promises.specs.Facts.{RecordByRecord, ListsRecordByRecord}
 use Rattle.promises.proofs.Members.{step-took}
@@ -109,7 +109,7 @@ unfolding itemRecord
 items-shrink i = need-shrinks 14 (ltb i itemCount) _ (shrinks-then readText _ text-shrinks (λ t. need-keeps 15 (leb (length t) nameBytes) (give t) (give-keeps t)))
 
 row-shrinks : Shrinks readRow
-unfolding readRow
+unfolding readRow readFront
 row-shrinks =
     shrinks-then readNumber _ number-shrinks λ i.
     keeps-then readNumber _ (shrinks-keeps readNumber number-shrinks) λ s.

@@ -1,6 +1,5 @@
--- `RowQuestions`: question 16. `RowStages`: a row read part by part. `RowSteps`: what is told of the row at a place of its list, and the
--- list that is being read. `RowWalks`: a walk over a row list that was read.
+-- `RowQuestions`: question 16. `RowSteps`: what is told of the row at a place of its list, and the list that is being read. `RowWalks`: a
+-- walk over a row list that was read.
 pub mod RowQuestions
-pub mod RowStages
 pub mod RowSteps
 pub mod RowWalks

@@ -6,23 +6,24 @@ use native.Mathlib.Omega.{arith}
 use borrow.Author.Tests.{lt-ltb, le-ltb, eq-eqb, ne-eqb}
 use lib.ListN.{length, take, drop}
 use Rattle.meaning.specs.Bytes.{Text, every, lowerHexDigit}
+use Rattle.meaning.specs.Limits.{idDigits}
 use Rattle.meaning.specs.Rows.{objectDigits, rowPasses}
 use Rattle.parse.specs.Places.{partAt}
 use Rattle.parse.proofs.Parts.{part-length, part-of}
 use Rattle.list.specs.declared.cursor.Cursor.{Cursor}
-use Rattle.row_list.specs.declared.RowPlace.{RowPlace}
+use Rattle.row_fields.specs.declared.RowPlace.{RowPlace}
+use Rattle.row_fields.specs.Fields.{rowMeant}
 use Rattle.row_list.specs.declared.RowStep.the-variants.{Row, Refused}
-use Rattle.row_list.specs.Rows.{rowMeant}
 
 -- the answers of `object_digits`
 module _ (s : Text) (at n : ℕ) (inside : at + n ≤ length s) where
-  pub digits-other : (n ≡ 40 → ⊥) → false ≡ objectDigits (partAt s at n)
+  pub digits-other : (n ≡ idDigits → ⊥) → false ≡ objectDigits (partAt s at n)
   unfolding objectDigits
-  digits-other h = rw (part-length s at n inside, ne-eqb n 40 h)
+  digits-other h = rw (part-length s at n inside, ne-eqb n idDigits h)
 
-  pub digits-forty : (r : Bool) → n ≡ 40 → r ≡ every lowerHexDigit (take (at + n - at) (drop at s)) → r ≡ objectDigits (partAt s at n)
+  pub digits-many : (r : Bool) → n ≡ idDigits → r ≡ every lowerHexDigit (take (at + n - at) (drop at s)) → r ≡ objectDigits (partAt s at n)
   unfolding objectDigits
-  digits-forty r h e = e ∙ ap (every lowerHexDigit) (part-of s at n) ∙ rw (part-length s at n inside, eq-eqb n 40 h)
+  digits-many r h e = e ∙ ap (every lowerHexDigit) (part-of s at n) ∙ rw (part-length s at n inside, eq-eqb n idDigits h)
 
 -- the answers of `row_passes`
 module _ (s : Text) (specs : ℕ) (row : RowPlace) where

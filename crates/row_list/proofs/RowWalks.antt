@@ -6,15 +6,17 @@ use Prim.Native.Nat.{ℕ, suc, _≤_}
 use native.Mathlib.Omega.{arith}
 use lib.ListN.{length, drop}
 use Rattle.meaning.specs.Bytes.{Text}
+use Rattle.meaning.specs.Limits.{rowListBytes}
 use Rattle.meaning.specs.Spec.{accepted, refused}
 use Rattle.meaning.specs.Rows as meaning
 use Rattle.promises.specs.Facts.{records}
 use Rattle.promises.proofs.Steps.{rows-shrink}
 use Rattle.list.specs.declared.cursor.Cursor.{Cursor}
-use Rattle.row_list.specs.declared.RowPlace.{RowPlace}
+use Rattle.row_fields.specs.declared.RowPlace.{RowPlace}
+use Rattle.row_fields.specs.Fields.{rowMeant}
 use Rattle.row_list.specs.declared.RowStep.{RowStep}
 use Rattle.row_list.specs.declared.RowStep.the-variants.{Row, End, Refused}
-use Rattle.row_list.specs.Rows.{rowMeant, RowTaken, RowTurned, RowSays}
+use Rattle.row_list.specs.Rows.{RowTaken, RowTurned, RowSays}
 use Rattle.list.proofs.Records.{accepted-records, first-of, records-past, records-no, records-took}
 
 -- what is left of a row list that was read, from a place on: row number j and those after it
@@ -26,7 +28,7 @@ pub record RowsLeft (specs : ℕ) (s : Text) (at j : ℕ) (rest : List meaning.R
 -- the whole list, at its start
 pub rows-left : (specs : ℕ) (s : Text) (l : List meaning.Row) → meaning.readRows specs s ≡ accepted l → RowsLeft specs s 0 0 l
 unfolding meaning.readRows
-rows-left specs s l e = record { within = omega arith; behind = omega arith; reads = accepted-records 1048576 (meaning.rowRecord specs) s l e }
+rows-left specs s l e = record { within = omega arith; behind = omega arith; reads = accepted-records rowListBytes (meaning.rowRecord specs) s l e }
 
 -- the next row: what is left is that row before what is left after it
 pub record RowNext (specs : ℕ) (s : Text) (row : RowPlace) (at′ j : ℕ) (rest : List meaning.Row) : Type 0 where

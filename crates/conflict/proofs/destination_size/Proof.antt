@@ -4,8 +4,8 @@ use borrow.Author.Needs.{needs}
 use Rattle.conflict.proofs.destination_size.Statement.{statement}
 use Rattle.conflict.proofs.destination_size.Tie as tie
 
-fields-requires : tie.Need-fields-requires
-fields-requires c κs = search needs
+destination-at-requires : tie.Need-destination-at-requires
+destination-at-requires c κs = search needs
 
 size-requires : tie.Need-size-requires
 size-requires c κs = search needs
@@ -17,4 +17,4 @@ returns : tie.Need-returns
 returns c = (search destination-size, search destination-small)
 
 pub destination-size-spec : {M : Type 1} → statement M
-destination-size-spec = tie.close (tie.spec fields-requires size-requires add-result returns)
+destination-size-spec = tie.close (tie.spec destination-at-requires size-requires add-result returns)

@@ -1,11 +1,11 @@
--- `conflict::put_destination` meets its contract: the text that its fields denote.
+-- `conflict::put_destination` meets its contract: the text that its place denotes.
 use Rattle.conflict.proofs.Shares.{destination-room, destination-put, destination-after}
 use borrow.Author.Needs.{needs}
 use Rattle.conflict.proofs.put_destination.Statement.{statement}
 use Rattle.conflict.proofs.put_destination.Tie as tie
 
-fields-requires : tie.Need-fields-requires
-fields-requires c κs = search needs
+destination-at-requires : tie.Need-destination-at-requires
+destination-at-requires c κs = search needs
 
 put-text-requires : tie.Need-put-text-requires
 put-text-requires c κs = (search needs, search needs, search destination-room)
@@ -17,4 +17,4 @@ returns : tie.Need-returns
 returns c = (search destination-put, search destination-after)
 
 pub put-destination-spec : {M : Type 1} → statement M
-put-destination-spec = tie.close (tie.spec fields-requires put-text-requires same-length returns)
+put-destination-spec = tie.close (tie.spec destination-at-requires put-text-requires same-length returns)

@@ -1,6 +1,6 @@
 -- A kept row is copied and has no fix; one that goes out gives its fix. Assumes nothing.
 use denote.Ref.{now}
-use Rattle.row_list.proofs.RowStages.{octets-of}
+use Rattle.number.proofs.Round.{octets-of}
 use Rattle.kept.proofs.Spelled.{kept-room, kept-put, kept-end, gone-put, gone-end, no-fix-put, no-fix-end, fix-room, fix-put, fix-end}
 use borrow.Author.Needs.{needs}
 use Rattle.kept.proofs.put_either.Statement.{statement}

@@ -1,6 +1,6 @@
 -- A kept row takes its own bytes, another none. Assumes nothing.
 use denote.Ref.{now}
-use Rattle.row_list.proofs.RowStages.{octets-of}
+use Rattle.number.proofs.Round.{octets-of}
 use Rattle.kept.proofs.Spelled.{kept-size, kept-small, gone-size}
 use borrow.Author.Needs.{needs}
 use Rattle.kept.proofs.row_size.Statement.{statement}

@@ -1,5 +1,5 @@
--- `row_list::object_digits` meets its contract: forty bytes, and each a lower-case digit.
-use Rattle.row_list.proofs.RowQuestions.{digits-other, digits-forty}
+-- `row_list::object_digits` meets its contract: as many bytes as an object id has, and each a lower-case digit.
+use Rattle.row_list.proofs.RowQuestions.{digits-other, digits-many}
 use borrow.Author.Needs.{needs}
 use Rattle.row_list.proofs.object_digits.Statement.{statement}
 use Rattle.row_list.proofs.object_digits.Tie as tie
@@ -23,7 +23,7 @@ all-lower-hex-requires : tie.Need-all-lower-hex-requires
 all-lower-hex-requires c κs = search needs
 
 returns-2 : tie.Need-returns-2
-returns-2 c = search digits-forty
+returns-2 c = search digits-many
 
 pub object-digits-spec : {M : Type 1} → statement M
 object-digits-spec =

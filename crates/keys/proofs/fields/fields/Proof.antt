@@ -1,17 +1,14 @@
--- `keys::fields::fields` meets its contract: the item field is read, or is malformed.
-use Rattle.keys.proofs.Stages.{row-next, row-stop}
+-- `keys::fields::fields` meets its contract: the row that was read, or one without anything.
+use Rattle.keys.proofs.Rows.{row-found, none-found}
 use borrow.Author.Needs.{needs}
 use Rattle.keys.proofs.fields.fields.Statement.{statement}
 use Rattle.keys.proofs.fields.fields.Tie as tie
 
-read-requires : tie.Need-read-requires
-read-requires c κs = search needs
+read-front-requires : tie.Need-read-front-requires
+read-front-requires c κs = search needs
 
-enum-known-value : tie.Need-enum-known-value
-enum-known-value c = search needs
-
-after-item-requires : tie.Need-after-item-requires
-after-item-requires c κs = search needs
+enum-known-row : tie.Need-enum-known-row
+enum-known-row c = search needs
 
 enum-told : tie.Need-enum-told
 enum-told c = search needs
@@ -20,19 +17,12 @@ nothing-requires : tie.Need-nothing-requires
 nothing-requires c κs = search needs
 
 returns : tie.Need-returns
-returns c = search row-next
+returns c = search row-found
 
 returns-2 : tie.Need-returns-2
-returns-2 c = search row-stop
+returns-2 c = search none-found
 
 pub fields-spec : {M : Type 1} → statement M
 fields-spec =
     tie.close
-    (tie.spec
-    read-requires
-    enum-known-value
-    after-item-requires
-    enum-told
-    nothing-requires
-    returns
-    returns-2)
+    (tie.spec read-front-requires enum-known-row enum-told nothing-requires returns returns-2)
