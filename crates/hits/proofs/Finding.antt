@@ -179,54 +179,54 @@ module _ (back : Bool) (gone : Text → Bool) (specs : Text) (table : List ℕ) 
 -- ---- members in a row, each of which gives a text and hits
 
 -- those before number i are found, each of which takes at most b
-pub record RowFound (text : ℕ → Text) (codes : ℕ → List ℕ) (group b : ℕ) (first hits : List ℕ) (size noted i : ℕ) : Type 0 where
+pub record RowFound (text : ℕ → Text) (codes : ℕ → List ℕ) (group b : ℕ) (first : List ℕ) (start : ℕ) (hits : List ℕ) (size noted i : ℕ) : Type 0 where
   pub there : i ≤ group
   pub counted : Counted (across text 0 group) size (across text i (group - i)) i b
   pub long : length hits ≡ length first
-  pub noting : Noting first 0 (across codes 0 group) hits noted (across codes i (group - i))
+  pub noting : Noting first start (across codes 0 group) hits noted (across codes i (group - i))
 
 module _ (text : ℕ → Text) (codes : ℕ → List ℕ) (group b : ℕ) where
-  pub row-begin : (hits : List ℕ) → RowFound text codes group b hits hits 0 0 0
-  row-begin hits =
+  pub row-begin : (hits : List ℕ) (noted : ℕ) → RowFound text codes group b hits noted hits 0 noted 0
+  row-begin hits noted =
       let e : group - 0 ≡ group = omega arith in
       record {
         there = omega arith;
         counted = counted-starts (across text 0 group) (across text 0 (group - 0)) b (rw e) 0;
         long = refl;
-        noting = noting-starts hits 0 (across codes 0 group) (across codes 0 (group - 0)) (rw e);
+        noting = noting-starts hits noted (across codes 0 group) (across codes 0 (group - 0)) (rw e);
       }
 
-  module _ (first hits : List ℕ) (size noted i : ℕ) (c : RowFound text codes group b first hits size noted i) where
-    pub row-next : i < group → (k : ℕ) → k ≡ length (text i) → k ≤ b → (after : List ℕ) (next : ℕ) → Adds hits noted (codes i) after next → RowFound text codes group b first after (size + k) next (i + 1)
+  module _ (first : List ℕ) (start : ℕ) (hits : List ℕ) (size noted i : ℕ) (c : RowFound text codes group b first start hits size noted i) where
+    pub row-next : i < group → (k : ℕ) → k ≡ length (text i) → k ≤ b → (after : List ℕ) (next : ℕ) → Adds hits noted (codes i) after next → RowFound text codes group b first start after (size + k) next (i + 1)
     row-next h k e l after next a =
         record {
           there = omega arith;
           counted = counted-more (across text 0 group) size (across text i (group - i)) i b (c .counted) (text i) (across text (i + 1) (group - (i + 1))) (across-next text i group h) k e l;
           long = a .long ∙ c .long;
-          noting = noting-more first 0 (across codes 0 group) hits noted (across codes i (group - i)) (c .noting) (codes i) (across codes (i + 1) (group - (i + 1))) (across-next codes i group h) after next a;
+          noting = noting-more first start (across codes 0 group) hits noted (across codes i (group - i)) (c .noting) (codes i) (across codes (i + 1) (group - (i + 1))) (across-next codes i group h) after next a;
         }
 
     pub row-measured : group ≤ i → size ≡ length (across text 0 group)
     row-measured h = counted-whole (across text 0 group) size (across text i (group - i)) i b (c .counted) (across-none text i group h)
 
-    pub row-noted : group ≤ i → Adds first 0 (across codes 0 group) hits noted
-    row-noted h = noting-done first 0 (across codes 0 group) hits noted (across codes i (group - i)) (c .noting) (across-none codes i group h)
+    pub row-noted : group ≤ i → Adds first start (across codes 0 group) hits noted
+    row-noted h = noting-done first start (across codes 0 group) hits noted (across codes i (group - i)) (c .noting) (across-none codes i group h)
 
     pub row-long : length hits ≡ length first
     row-long = c .long
 
 -- how much all of them take
-module _ (text : ℕ → Text) (codes : ℕ → List ℕ) (group : ℕ) (few : group ≤ specCount) (first hits : List ℕ) (size noted i : ℕ) where
-  pub specs-fit : RowFound text codes group specMost first hits size noted i → (k : ℕ) → k ≤ specMost → Fits w64 (size + k)
+module _ (text : ℕ → Text) (codes : ℕ → List ℕ) (group : ℕ) (few : group ≤ specCount) (first : List ℕ) (start : ℕ) (hits : List ℕ) (size noted i : ℕ) where
+  pub specs-fit : RowFound text codes group specMost first start hits size noted i → (k : ℕ) → k ≤ specMost → Fits w64 (size + k)
   specs-fit c k h = omega (arith, c .counted .small, c .there)
 
-  pub specs-small : RowFound text codes group specMost first hits size noted i → size ≤ groupMost
+  pub specs-small : RowFound text codes group specMost first start hits size noted i → size ≤ groupMost
   specs-small c = omega (arith, c .counted .small, c .there)
 
-  pub objects-fit : RowFound text codes group rowMost first hits size noted i → (k : ℕ) → k ≤ rowMost → Fits w64 (size + k)
+  pub objects-fit : RowFound text codes group rowMost first start hits size noted i → (k : ℕ) → k ≤ rowMost → Fits w64 (size + k)
   objects-fit c k h = omega (arith, c .counted .small, c .there)
 
-  pub objects-small : RowFound text codes group rowMost first hits size noted i → size ≤ objectsMost
+  pub objects-small : RowFound text codes group rowMost first start hits size noted i → size ≤ objectsMost
   objects-small c = omega (arith, c .counted .small, c .there)
 
 -- ---- one spec as an object source

@@ -1,5 +1,5 @@
 -- What the hits of a listing give is what its specs give, and each of them is good. Assumes nothing.
-use mathlib.Core.Path.{_≡_, refl, sym, ap, _∙_, subst}
+use mathlib.Core.Path.{_≡_, refl, sym, ap, _∙_}
 use mathlib.Core.Bool.{Bool, true, false, cond}
 use mathlib.Core.List.{List, [], _∷_, _++_, append-nil, append-assoc}
 use Prim.Native.Nat.{ℕ, zero, suc, _+_, _/_, _%_, _≤_, _<_}
@@ -7,8 +7,7 @@ use native.Mathlib.Omega.{arith}
 use native.Mathlib.Numerals.{add-one}
 use borrow.Author.Tests.{eqb-true, eqb-false}
 use lib.Dec.{eqb}
-use lib.ListN.{length, getD, take, length-take}
-use lib.Seq.{getD-take}
+use lib.ListN.{length, getD}
 use Rattle.meaning.specs.Bytes.{Text, each}
 use Rattle.meaning.specs.Limits.{itemCount}
 use Rattle.parse.specs.Places.{partAt}
@@ -24,12 +23,12 @@ each-append f [] m = refl
 each-append f (x ∷ l) m = rw (each-append f l m) (sym (append-assoc (f x) (each l f) (each m f)))
 
 -- some hits give a text, and each of them is good
-record Gives (f : ℕ → Text) (good : ℕ → Type 0) (codes : List ℕ) (t : Text) : Type 0 where
-  gives : each codes f ≡ t
-  are : (k : ℕ) → k < length codes → good (getD codes k 0)
+pub record Gives (f : ℕ → Text) (good : ℕ → Type 0) (codes : List ℕ) (t : Text) : Type 0 where
+  pub gives : each codes f ≡ t
+  pub are : (k : ℕ) → k < length codes → good (getD codes k 0)
 
 module _ (f : ℕ → Text) (good : ℕ → Type 0) where
-  gives-none : Gives f good [] []
+  pub gives-none : Gives f good [] []
   gives-none = record { gives = refl; are = λ k h. absurd (omega arith) }
 
   good-both : (a b : List ℕ) → ((k : ℕ) → k < length a → good (getD a k 0)) → ((k : ℕ) → k < length b → good (getD b k 0)) → (k : ℕ) → k < length (a ++ b) → good (getD (a ++ b) k 0)
@@ -37,7 +36,7 @@ module _ (f : ℕ → Text) (good : ℕ → Type 0) where
   good-both (x ∷ a) b g h zero l = g 0 (omega arith)
   good-both (x ∷ a) b g h (suc k) l = good-both a b (λ k m. g (suc k) (omega arith)) h k (omega arith)
 
-  gives-both : (a b : List ℕ) (s t : Text) → Gives f good a s → Gives f good b t → Gives f good (a ++ b) (s ++ t)
+  pub gives-both : (a b : List ℕ) (s t : Text) → Gives f good a s → Gives f good b t → Gives f good (a ++ b) (s ++ t)
   gives-both a b s t g h =
       record {
         gives = each-append f a b ∙ ap (λ (x : Text). x ++ each b f) (g .gives) ∙ ap (λ (x : Text). s ++ x) (h .gives);
@@ -105,13 +104,13 @@ module _ (back : Bool) (specs : Text) (table : List ℕ) (group : ℕ) (items : 
         },
       )
 
-  spec-gives : (gone : Text → Bool) (i : ℕ) → i < group → Gives f good (specHits back gone specs table items places n i) (specGives back gone specs table items places n i)
+  pub spec-gives : (gone : Text → Bool) (i : ℕ) → i < group → Gives f good (specHits back gone specs table items places n i) (specGives back gone specs table items places n i)
   spec-gives gone i h = gives-across f good (pairHits back gone (specAt specs table i) items places i) (pairGives back gone (specAt specs table i) items places i) 0 n (λ j a b. pair-gives gone i j h (omega arith))
 
-  group-gives : (gone : Text → Bool) → Gives f good (groupHits back gone specs table group items places n) (groupGives back gone specs table group items places n)
+  pub group-gives : (gone : Text → Bool) → Gives f good (groupHits back gone specs table group items places n) (groupGives back gone specs table group items places n)
   group-gives gone = gives-across f good (specHits back gone specs table items places n) (specGives back gone specs table items places n) 0 group (λ i a b. spec-gives gone i (omega arith))
 
-  objects-give : Gives f good (objectHits specs table group) (objectsGive specs table group)
+  pub objects-give : Gives f good (objectHits specs table group) (objectsGive specs table group)
   objects-give = gives-across f good (λ i. hitIf (length (objectBytes i (specAt specs table i))) (hitOf i 0)) (λ i. objectBytes i (specAt specs table i)) 0 group (λ i a b. one i (omega arith))
     where
       zero-small : 0 ≤ itemCount
@@ -126,41 +125,9 @@ module _ (back : Bool) (specs : Text) (table : List ℕ) (group : ℕ) (items : 
           here : 0 < length (objectBytes i (specAt specs table i)) → (f (hitOf i 0) ≡ objectBytes i (specAt specs table i)) × good (hitOf i 0)
           here p = (text, record { spec-there = rw (hit-spec i 0 zero-small) h; item-there = rw (hit-field i 0 zero-small) (omega arith); gives = rw text p })
 
-  -- hits that were noted, if there was room for them
-  module _ (codes : List ℕ) (t : Text) (g : Gives f good codes t) (hits : List ℕ) (noted : ℕ) (taken : take noted hits ≡ codes) (h : noted ≤ length hits) where
-    noted-give : each (take noted hits) f ≡ t
-    noted-give = rw taken (g .gives)
-
-    noted-good : AllGood back specs table group items places n hits noted
-    noted-good =
-        record {
-          all = h;
-          each-good = λ k l.
-              let long : length codes ≡ noted = sym (ap length taken) ∙ simp length-take (omega arith) in
-              subst good (ap (λ (l : List ℕ). getD l k 0) (sym taken) ∙ getD-take noted hits k 0 l) (g .are k (omega (arith, long)));
-        }
-
-  module _ (hits : List ℕ) (noted : ℕ) where
-    -- those of all specs
-    pub group-noted-gives : (gone : Text → Bool) → take noted hits ≡ groupHits back gone specs table group items places n → noted ≤ length hits → each (take noted hits) (hitBytes back specs table items places) ≡ groupGives back gone specs table group items places n
-    group-noted-gives gone e h = noted-give (groupHits back gone specs table group items places n) (groupGives back gone specs table group items places n) (group-gives gone) hits noted e h
-
-    pub group-noted-good : (gone : Text → Bool) → take noted hits ≡ groupHits back gone specs table group items places n → noted ≤ length hits → AllGood back specs table group items places n hits noted
-    group-noted-good gone e h = noted-good (groupHits back gone specs table group items places n) (groupGives back gone specs table group items places n) (group-gives gone) hits noted e h
-
-    -- those of one spec
-    pub spec-noted-gives : (gone : Text → Bool) (i : ℕ) → i < group → take noted hits ≡ specHits back gone specs table items places n i → noted ≤ length hits → each (take noted hits) (hitBytes back specs table items places) ≡ specGives back gone specs table items places n i
-    spec-noted-gives gone i l e h = noted-give (specHits back gone specs table items places n i) (specGives back gone specs table items places n i) (spec-gives gone i l) hits noted e h
-
-    pub spec-noted-good : (gone : Text → Bool) (i : ℕ) → i < group → take noted hits ≡ specHits back gone specs table items places n i → noted ≤ length hits → AllGood back specs table group items places n hits noted
-    spec-noted-good gone i l e h = noted-good (specHits back gone specs table items places n i) (specGives back gone specs table items places n i) (spec-gives gone i l) hits noted e h
-
-    -- those of object sources
-    pub objects-noted-give : take noted hits ≡ objectHits specs table group → noted ≤ length hits → each (take noted hits) (hitBytes back specs table items places) ≡ objectsGive specs table group
-    objects-noted-give e h = noted-give (objectHits specs table group) (objectsGive specs table group) objects-give hits noted e h
-
-    pub objects-noted-good : take noted hits ≡ objectHits specs table group → noted ≤ length hits → AllGood back specs table group items places n hits noted
-    objects-noted-good e h = noted-good (objectHits specs table group) (objectsGive specs table group) objects-give hits noted e h
+  -- hits that give a text are good
+  pub gives-good : (codes : List ℕ) (t : Text) → Gives f good codes t → AllGood back specs table group items places n codes
+  gives-good codes t g = record { each-good = g .are }
 
 -- ---- there is room for them
 

@@ -5,8 +5,8 @@ use mathlib.Core.List.{List, [], _++_}
 use Prim.Native.Nat.{ℕ, zero, suc, _+_, _-_, _*_, _/_, _%_, _≤_, _<_}
 use native.Mathlib.Omega.{arith}
 use native.Mathlib.Numerals.{add-one}
-use lib.ListN.{length, getD, take, drop, length-take, drop-of-length-le}
-use lib.Seq.{drop-cons, getD-take}
+use lib.ListN.{length, getD, drop, drop-of-length-le}
+use lib.Seq.{drop-cons}
 use Rattle.meaning.specs.Bytes.{Text, each}
 use Rattle.meaning.specs.Limits.{nameBytes, itemCount, specCount}
 use Rattle.meaning.specs.Spec.{Spec}
@@ -24,41 +24,32 @@ drop-all : (l : List ℕ) (i : ℕ) → length l ≤ i → drop i l ≡ []
 drop-all l i h = drop-of-length-le l h
 
 -- what the hits from number k on give is still to be written
-abbrev pub HitsWritten : (ℕ → Text) → List ℕ → ℕ → Text → ℕ → ℕ → Text → ℕ → Type 0
-HitsWritten f hits noted first at k out end = Writing first at (each (take noted hits) f) out end (each (drop k (take noted hits)) f)
+abbrev pub HitsWritten : (ℕ → Text) → List ℕ → Text → ℕ → ℕ → Text → ℕ → Type 0
+HitsWritten f hits first at k out end = Writing first at (each hits f) out end (each (drop k hits) f)
 
-module _ (f : ℕ → Text) (hits : List ℕ) (noted : ℕ) (all : noted ≤ length hits) (first : Text) (at : ℕ) where
-  pub hits-begin : at + length (each (take noted hits) f) ≤ length first → HitsWritten f hits noted first at 0 first at
-  hits-begin h = writing-starts first at (each (take noted hits) f) h
+module _ (f : ℕ → Text) (hits : List ℕ) (first : Text) (at : ℕ) where
+  pub hits-begin : at + length (each hits f) ≤ length first → HitsWritten f hits first at 0 first at
+  hits-begin h = writing-starts first at (each hits f) h
 
-  long : length (take noted hits) ≡ noted
-  long = simp length-take (omega arith)
+  module _ (k : ℕ) (out : Text) (end : ℕ) (w : HitsWritten f hits first at k out end) where
+    next : k < length hits → each (drop k hits) f ≡ f (getD hits k 0) ++ each (drop (k + 1) hits) f
+    next h = rw (add-one k) (ap (λ (l : List ℕ). each l f) (drop-cons hits k 0 h))
 
-  module _ (k : ℕ) (out : Text) (end : ℕ) (w : HitsWritten f hits noted first at k out end) where
-    next : k < noted → each (drop k (take noted hits)) f ≡ f (getD hits k 0) ++ each (drop (k + 1) (take noted hits)) f
-    next h =
-        rw (add-one k)
-        (ap (λ (l : List ℕ). each l f) (drop-cons (take noted hits) k 0 (omega (arith, long)))
-        ∙ ap (λ (x : ℕ). f x ++ each (drop (suc k) (take noted hits)) f) (getD-take noted hits k 0 h))
+    hits-room : k < length hits → (x : ℕ) → x ≡ getD hits k 0 → (t : Text) → t ≡ f x → end + length t ≤ length out
+    hits-room h x e t q = rw (q, e) (writing-room first at (each hits f) out end (each (drop k hits) f) w (f (getD hits k 0)) (each (drop (k + 1) hits) f) (next h))
 
-    hits-room : k < noted → (x : ℕ) → x ≡ getD hits k 0 → (t : Text) → t ≡ f x → end + length t ≤ length out
-    hits-room h x e t q = rw (q, e) (writing-room first at (each (take noted hits) f) out end (each (drop k (take noted hits)) f) w (f (getD hits k 0)) (each (drop (k + 1) (take noted hits)) f) (next h))
-
-    hits-next : k < noted → (x : ℕ) → x ≡ getD hits k 0 → (t : Text) → t ≡ f x → (o : Text) (e : ℕ) → Put out end t o e → HitsWritten f hits noted first at (k + 1) o e
+    hits-next : k < length hits → (x : ℕ) → x ≡ getD hits k 0 → (t : Text) → t ≡ f x → (o : Text) (e : ℕ) → Put out end t o e → HitsWritten f hits first at (k + 1) o e
     hits-next h x e t et o end₂ q =
         let p : Put out end (f (getD hits k 0)) o end₂ = rw (et, e) at q in
-        writing-more first at (each (take noted hits) f) out end (each (drop k (take noted hits)) f) w (f (getD hits k 0)) (each (drop (k + 1) (take noted hits)) f) (next h) o end₂ (p .puts) (p .ends)
+        writing-more first at (each hits f) out end (each (drop k hits) f) w (f (getD hits k 0)) (each (drop (k + 1) hits) f) (next h) o end₂ (p .puts) (p .ends)
 
-    pub hits-end : noted ≤ k → Put first at (each (take noted hits) f) out end
+    pub hits-end : length hits ≤ k → Put first at (each hits f) out end
     hits-end h =
-        let e : each (drop k (take noted hits)) f ≡ [] = ap (λ (l : List ℕ). each l f) (drop-all (take noted hits) k (omega (arith, long))) in
-        record {
-          puts = written-whole first at (each (take noted hits) f) out end (each (drop k (take noted hits)) f) w e;
-          ends = written-place first at (each (take noted hits) f) out end (each (drop k (take noted hits)) f) w e;
-        }
+        let e : each (drop k hits) f ≡ [] = ap (λ (l : List ℕ). each l f) (drop-all hits k h) in
+        record { puts = written-whole first at (each hits f) out end (each (drop k hits) f) w e; ends = written-place first at (each hits f) out end (each (drop k hits) f) w e }
 
   -- no hit gives nothing
-  pub hits-none : noted ≡ 0 → at + length (each (take noted hits) f) ≤ length first → Put first at (each (take noted hits) f) first at
+  pub hits-none : length hits ≡ 0 → at + length (each hits f) ≤ length first → Put first at (each hits f) first at
   hits-none z h = hits-end 0 first at (hits-begin h) (omega arith)
 
 -- ---- one hit
@@ -116,12 +107,12 @@ module _ (back : Bool) (items : Text) (places : List ℕ) (n : ℕ) (p : PlacesI
 
 -- ---- where there is a hit there is a spec
 
-pub first-matcher : (back : Bool) (specs : Text) (table : List ℕ) (group : ℕ) → TableReady specs table group → (items : Text) (places : List ℕ) (n : ℕ) (hits : List ℕ) (noted : ℕ) → AllGood back specs table group items places n hits noted → (noted ≡ 0 → ⊥) → matcherNumbers * 0 + matcherNumbers ≤ length table
-first-matcher back specs table group t items places n hits noted q z = let h : 0 < noted = omega arith in omega (arith, q .each-good 0 h .spec-there, t .room)
+pub first-matcher : (back : Bool) (specs : Text) (table : List ℕ) (group : ℕ) → TableReady specs table group → (items : Text) (places : List ℕ) (n : ℕ) (hits : List ℕ) → AllGood back specs table group items places n hits → (length hits ≡ 0 → ⊥) → matcherNumbers * 0 + matcherNumbers ≤ length table
+first-matcher back specs table group t items places n hits q z = let h : 0 < length hits = omega arith in omega (arith, q .each-good 0 h .spec-there, t .room)
 
 -- ---- a turn of the loop: hit number k, of a spec whose matcher is at hand
 
-module _ (back : Bool) (specs : Text) (table : List ℕ) (group : ℕ) (t : TableReady specs table group) (items : Text) (places : List ℕ) (n : ℕ) (hits : List ℕ) (noted : ℕ) (q : AllGood back specs table group items places n hits noted) (k : ℕ) (h : k < noted) (hit : ℕ) (e : hit ≡ getD hits k 0) where
+module _ (back : Bool) (specs : Text) (table : List ℕ) (group : ℕ) (t : TableReady specs table group) (items : Text) (places : List ℕ) (n : ℕ) (hits : List ℕ) (q : AllGood back specs table group items places n hits) (k : ℕ) (h : k < length hits) (hit : ℕ) (e : hit ≡ getD hits k 0) where
   good : Good back specs table group items places n hit
   good = rw e (q .each-good k h)
 
@@ -144,9 +135,9 @@ module _ (back : Bool) (specs : Text) (table : List ℕ) (group : ℕ) (t : Tabl
     pub turn-gives : 0 < length (underSpec back items places hit (specOf specs m))
     turn-gives = rw own (good .gives)
 
-    module _ (first : Text) (at : ℕ) (out : Text) (end : ℕ) (w : HitsWritten (hitBytes back specs table items places) hits noted first at k out end) where
+    module _ (first : Text) (at : ℕ) (out : Text) (end : ℕ) (w : HitsWritten (hitBytes back specs table items places) hits first at k out end) where
       pub turn-room : end + length (underSpec back items places hit (specOf specs m)) ≤ length out
-      turn-room = hits-room (hitBytes back specs table items places) hits noted (q .all) first at k out end w h hit e _ own
+      turn-room = hits-room (hitBytes back specs table items places) hits first at k out end w h hit e _ own
 
-      pub turn-next : (o : Text) (r : ℕ) → Put out end (underSpec back items places hit (specOf specs m)) o r → HitsWritten (hitBytes back specs table items places) hits noted first at (k + 1) o r
-      turn-next o r p = hits-next (hitBytes back specs table items places) hits noted (q .all) first at k out end w h hit e _ own o r p
+      pub turn-next : (o : Text) (r : ℕ) → Put out end (underSpec back items places hit (specOf specs m)) o r → HitsWritten (hitBytes back specs table items places) hits first at (k + 1) o r
+      turn-next o r p = hits-next (hitBytes back specs table items places) hits first at k out end w h hit e _ own o r p

@@ -49,12 +49,13 @@ pub record Stops (back : Bool) (specs : Text) (m : Matcher) (f : Filter) : Type 
   pub stops : (name : Text) → length name ≤ nameBytes → passes f name ≡ false → endsIn back (specOf specs m) name ≡ none
   pub within : FilterWithin f
 
--- t was noted after the first count hits, if there was room for all of it
+-- t was noted after the first count hits, if there was room for all of it; those before it are kept
 pub record Adds (hits : List ℕ) (count : ℕ) (t after : List ℕ) (next : ℕ) : Type 0 where
   pub long : length after ≡ length hits
   pub adds : next ≤ length hits → take next after ≡ take count hits ++ t
   pub before : next ≤ length hits → count ≤ length hits
   pub fits : count + length t ≤ length hits → next ≡ count + length t
+  pub kept : (k : ℕ) → k ≤ count → k ≤ length hits → (k ≤ next) × (take k after ≡ take k hits)
 
 -- a hit is of a spec and an item field that are there, and gives something
 pub record Good (back : Bool) (specs : Text) (table : List ℕ) (group : ℕ) (items : Text) (places : List ℕ) (n hit : ℕ) : Type 0 where
@@ -62,7 +63,6 @@ pub record Good (back : Bool) (specs : Text) (table : List ℕ) (group : ℕ) (i
   pub item-there : hit % hitStride ≤ n
   pub gives : 0 < length (hitBytes back specs table items places hit)
 
--- so are the first `noted` of some hits
-pub record AllGood (back : Bool) (specs : Text) (table : List ℕ) (group : ℕ) (items : Text) (places : List ℕ) (n : ℕ) (hits : List ℕ) (noted : ℕ) : Type 0 where
-  pub all : noted ≤ length hits
-  pub each-good : (k : ℕ) → k < noted → Good back specs table group items places n (getD hits k 0)
+-- so are some hits
+pub record AllGood (back : Bool) (specs : Text) (table : List ℕ) (group : ℕ) (items : Text) (places : List ℕ) (n : ℕ) (hits : List ℕ) : Type 0 where
+  pub each-good : (k : ℕ) → k < length hits → Good back specs table group items places n (getD hits k 0)

@@ -11,11 +11,14 @@ ghost use Rattle.pair.specs.Pairs.{specOf, itemBytes};
 ghost use Rattle.pair.specs.Asking.{Askable, Ready};
 ghost use Rattle.hits.specs.Hits.{hitOf, hitMost, hitIf, namesGive, specGives, groupGives, objectsGive, namesHits, specHits, groupHits, objectHits};
 ghost use Rattle.hits.specs.Noting.{specMost, groupMost, objectsMost, hitRoom, PlacesIn, TableReady, Stops, Adds};
+use super::scope::Scope;
+use super::scope::Turn;
 use filter::Filter;
 use filter::forward_filter;
 use filter::next_passing;
 use filter::reverse_filter;
 use limits::ITEM_COUNT;
+use limits::SPEC_COUNT;
 use matcher::types::Matcher;
 use matchers::matcher_at;
 use pair::item_size;
@@ -24,6 +27,9 @@ use sides::wide;
 
 // Hits of one spec and of the next are so far apart: further than there are item fields.
 pub(crate) const HIT_STRIDE: usize = 2 * ITEM_COUNT;
+
+// A table of hits has room for at most so many: each spec as an object source, and one for each name.
+pub const HIT_ROOM: usize = SPEC_COUNT + ITEM_COUNT;
 
 // How many bytes rows take, and how many hits are noted; more than there is room for where one was not.
 pub struct Found {
@@ -74,65 +80,57 @@ fn note(hits: &mut [u32], count: usize, size: usize, hit: usize) -> usize
     count + 1
 }
 
-// Measures and notes what name j gives under spec i.
+// Measures and notes what name j gives in the turn of a spec.
 fn name_found(
-    back: bool,
+    turn: Turn,
     specs: &[u8],
     m: Matcher,
-    i: usize,
     j: usize,
     name: &[u8],
     negatives: &[u16],
-    count: usize,
     hits: &mut [u32],
-    noted: usize,
 ) -> Found
-    requires { ⌜ Ready (now specs) m × Askable (now specs) (now negatives) count × (i ≤ specCount) × (j < itemCount) × (length (now name) ≤ nameBytes) × (length (now hits) ≤ hitRoom) ⌝ }
-    ensures { λ x. ⌜ (x .size ≡ length (itemBytes back (excludedBy (now (specs .entry)) (now (negatives .entry)) count) i j (now (name .entry)) (specOf (now (specs .entry)) m))) × (x .size ≤ rowMost)
-        × Adds (now (hits .entry)) noted (hitIf (length (itemBytes back (excludedBy (now (specs .entry)) (now (negatives .entry)) count) i j (now (name .entry)) (specOf (now (specs .entry)) m))) (hitOf i (j + 1))) (now (hits .exit)) (x .hits) ⌝ }
+    requires { ⌜ Ready (now specs) m × Askable (now specs) (now negatives) (turn .scope .negatives) × (turn .spec ≤ specCount) × (j < itemCount) × (length (now name) ≤ nameBytes) × (length (now hits) ≤ hitRoom) ⌝ }
+    ensures { λ x. ⌜ (x .size ≡ length (itemBytes (turn .scope .back) (excludedBy (now (specs .entry)) (now (negatives .entry)) (turn .scope .negatives)) (turn .spec) j (now (name .entry)) (specOf (now (specs .entry)) m))) × (x .size ≤ rowMost)
+        × Adds (now (hits .entry)) (turn .at) (hitIf (length (itemBytes (turn .scope .back) (excludedBy (now (specs .entry)) (now (negatives .entry)) (turn .scope .negatives)) (turn .spec) j (now (name .entry)) (specOf (now (specs .entry)) m))) (hitOf (turn .spec) (j + 1))) (now (hits .exit)) (x .hits) ⌝ }
 {
-    let size = item_size(back, specs, m, i, j, name, negatives, count);
-    let known = note(hits, noted, size, HIT_STRIDE * i + (j + 1));
+    let scope = turn.scope;
+    let i = turn.spec;
+    let size = item_size(scope.back, specs, m, i, j, name, negatives, scope.negatives);
+    let known = note(hits, turn.at, size, HIT_STRIDE * i + (j + 1));
     Found { size, hits: known }
 }
 
-// Measures and notes what the names that pass a filter give under spec i.
+// Measures and notes what the names that pass a filter give in the turn of a spec.
 fn names_found(
-    back: bool,
+    turn: Turn,
     specs: &[u8],
     m: Matcher,
     f: Filter,
-    i: usize,
     items: &[u8],
     places: &[u16],
-    n: usize,
     negatives: &[u16],
-    count: usize,
     hits: &mut [u32],
-    noted: usize,
 ) -> Found
-    requires { ⌜ Ready (now specs) m × Stops back (now specs) m f × (i ≤ specCount) × PlacesIn (now items) (now places) n × Askable (now specs) (now negatives) count × (length (now hits) ≤ hitRoom) ⌝ }
-    ensures { λ x. ⌜ (x .size ≡ length (namesGive back (excludedBy (now (specs .entry)) (now (negatives .entry)) count) (specOf (now (specs .entry)) m) (now (items .entry)) (now (places .entry)) n i)) × (x .size ≤ specMost)
-        × Adds (now (hits .entry)) noted (namesHits back (excludedBy (now (specs .entry)) (now (negatives .entry)) count) (specOf (now (specs .entry)) m) (now (items .entry)) (now (places .entry)) n i) (now (hits .exit)) (x .hits) ⌝ }
+    requires { ⌜ Ready (now specs) m × Stops (turn .scope .back) (now specs) m f × (turn .spec ≤ specCount) × PlacesIn (now items) (now places) (turn .scope .names) × Askable (now specs) (now negatives) (turn .scope .negatives) × (length (now hits) ≤ hitRoom) ⌝ }
+    ensures { λ x. ⌜ (x .size ≡ length (namesGive (turn .scope .back) (excludedBy (now (specs .entry)) (now (negatives .entry)) (turn .scope .negatives)) (specOf (now (specs .entry)) m) (now (items .entry)) (now (places .entry)) (turn .scope .names) (turn .spec))) × (x .size ≤ specMost)
+        × Adds (now (hits .entry)) (turn .at) (namesHits (turn .scope .back) (excludedBy (now (specs .entry)) (now (negatives .entry)) (turn .scope .negatives)) (specOf (now (specs .entry)) m) (now (items .entry)) (now (places .entry)) (turn .scope .names) (turn .spec)) (now (hits .exit)) (x .hits) ⌝ }
 {
+    let scope = turn.scope;
+    let i = turn.spec;
+    let n = scope.names;
     let mut size = 0;
-    let mut known = noted;
+    let mut known = turn.at;
     let mut j = next_passing(f, items, places, n, 0);
     while j < n {
         let at = wide(places[2 * j]);
         let len = wide(places[2 * j + 1]);
-        let x = name_found(
-            back,
-            specs,
-            m,
-            i,
-            j,
-            part(items, at, len),
-            negatives,
-            count,
-            hits,
-            known,
-        );
+        let next = Turn {
+            scope,
+            spec: i,
+            at: known,
+        };
+        let x = name_found(next, specs, m, j, part(items, at, len), negatives, hits);
         known = x.hits;
         size += x.size;
         j = next_passing(f, items, places, n, j + 1);
@@ -140,90 +138,64 @@ fn names_found(
     Found { size, hits: known }
 }
 
-// Measures and notes what spec i of a table gives.
+// Measures and notes what one spec of a table gives in its turn.
 pub fn spec_found(
-    back: bool,
+    turn: Turn,
     specs: &[u8],
     table: &[u16],
-    group: usize,
-    i: usize,
     items: &[u8],
     places: &[u16],
-    n: usize,
     negatives: &[u16],
-    count: usize,
     hits: &mut [u32],
-    noted: usize,
 ) -> Found
-    requires { ⌜ TableReady (now specs) (now table) group × (i < group) × PlacesIn (now items) (now places) n × Askable (now specs) (now negatives) count × (length (now hits) ≤ hitRoom) ⌝ }
-    ensures { λ x. ⌜ (x .size ≡ length (specGives back (excludedBy (now (specs .entry)) (now (negatives .entry)) count) (now (specs .entry)) (now (table .entry)) (now (items .entry)) (now (places .entry)) n i)) × (x .size ≤ specMost)
-        × Adds (now (hits .entry)) noted (specHits back (excludedBy (now (specs .entry)) (now (negatives .entry)) count) (now (specs .entry)) (now (table .entry)) (now (items .entry)) (now (places .entry)) n i) (now (hits .exit)) (x .hits) ⌝ }
+    requires { ⌜ TableReady (now specs) (now table) (turn .scope .specs) × (turn .spec < turn .scope .specs) × PlacesIn (now items) (now places) (turn .scope .names) × Askable (now specs) (now negatives) (turn .scope .negatives) × (length (now hits) ≤ hitRoom) ⌝ }
+    ensures { λ x. ⌜ (x .size ≡ length (specGives (turn .scope .back) (excludedBy (now (specs .entry)) (now (negatives .entry)) (turn .scope .negatives)) (now (specs .entry)) (now (table .entry)) (now (items .entry)) (now (places .entry)) (turn .scope .names) (turn .spec))) × (x .size ≤ specMost)
+        × Adds (now (hits .entry)) (turn .at) (specHits (turn .scope .back) (excludedBy (now (specs .entry)) (now (negatives .entry)) (turn .scope .negatives)) (now (specs .entry)) (now (table .entry)) (now (items .entry)) (now (places .entry)) (turn .scope .names) (turn .spec)) (now (hits .exit)) (x .hits) ⌝ }
 {
-    let m = matcher_at(table, i);
-    let f = filter_of(back, specs, m);
+    let scope = turn.scope;
+    let m = matcher_at(table, turn.spec);
+    let f = filter_of(scope.back, specs, m);
     // No name passes, as none does for a negative spec.
     if f.most < f.least {
         return Found {
             size: 0,
-            hits: noted,
+            hits: turn.at,
         };
     }
-    names_found(
-        back,
-        specs,
-        m,
-        f,
-        i,
-        items,
-        places,
-        n,
-        negatives,
-        count,
-        hits,
-        noted,
-    )
+    names_found(turn, specs, m, f, items, places, negatives, hits)
 }
 
-// Measures and notes what all specs of a table give.
+// Measures what all specs of a table give, and notes it after the first `noted` hits.
 pub fn specs_found(
-    back: bool,
+    scope: Scope,
     specs: &[u8],
     table: &[u16],
-    group: usize,
     items: &[u8],
     places: &[u16],
-    n: usize,
     negatives: &[u16],
-    count: usize,
     hits: &mut [u32],
+    noted: usize,
 ) -> Found
-    requires { ⌜ TableReady (now specs) (now table) group × PlacesIn (now items) (now places) n × Askable (now specs) (now negatives) count × (length (now hits) ≤ hitRoom) ⌝ }
-    ensures { λ x. ⌜ (x .size ≡ length (groupGives back (excludedBy (now (specs .entry)) (now (negatives .entry)) count) (now (specs .entry)) (now (table .entry)) group (now (items .entry)) (now (places .entry)) n)) × (x .size ≤ groupMost)
-        × Adds (now (hits .entry)) 0 (groupHits back (excludedBy (now (specs .entry)) (now (negatives .entry)) count) (now (specs .entry)) (now (table .entry)) group (now (items .entry)) (now (places .entry)) n) (now (hits .exit)) (x .hits) ⌝ }
+    requires { ⌜ TableReady (now specs) (now table) (scope .specs) × PlacesIn (now items) (now places) (scope .names) × Askable (now specs) (now negatives) (scope .negatives) × (length (now hits) ≤ hitRoom) ⌝ }
+    ensures { λ x. ⌜ (x .size ≡ length (groupGives (scope .back) (excludedBy (now (specs .entry)) (now (negatives .entry)) (scope .negatives)) (now (specs .entry)) (now (table .entry)) (scope .specs) (now (items .entry)) (now (places .entry)) (scope .names))) × (x .size ≤ groupMost)
+        × Adds (now (hits .entry)) noted (groupHits (scope .back) (excludedBy (now (specs .entry)) (now (negatives .entry)) (scope .negatives)) (now (specs .entry)) (now (table .entry)) (scope .specs) (now (items .entry)) (now (places .entry)) (scope .names)) (now (hits .exit)) (x .hits) ⌝ }
 {
+    let group = scope.specs;
     let mut size = 0;
-    let mut noted = 0;
+    let mut known = noted;
     let mut i = 0;
     while i < group {
-        let x = spec_found(
-            back,
-            specs,
-            table,
-            group,
-            i,
-            items,
-            places,
-            n,
-            negatives,
-            count,
-            hits,
-            noted,
-        );
-        noted = x.hits;
+        let turn = Turn {
+            scope,
+            spec: i,
+            at: known,
+        };
+        let x = spec_found(turn, specs, table, items, places, negatives, hits);
+        known = x.hits;
         size += x.size;
         i += 1;
     }
-    Found { size, hits: noted }
+    Found { size, hits: known }
 }
 
 // Measures and notes what all specs of a table give as object sources.

@@ -1,7 +1,7 @@
 // Writing the rows of hits.
 ghost use mathlib.Core.Path.{_≡_};
 ghost use Prim.Native.Nat.{_+_, _*_, _/_, _%_, _≤_, _<_};
-ghost use lib.ListN.{length, take};
+ghost use lib.ListN.{length};
 ghost use Rattle.meaning.specs.Bytes.{each};
 ghost use Rattle.meaning.specs.Limits.{specCount};
 ghost use Rattle.pair.specs.Pairs.{specOf};
@@ -10,6 +10,7 @@ ghost use Rattle.hits.specs.Hits.{hitStride, fieldStart, fieldSize, unde
 ghost use Rattle.hits.specs.Noting.{PlacesIn, TableReady, AllGood};
 use super::found::HIT_STRIDE;
 use super::found::part;
+use super::scope::Scope;
 use matcher::types::Matcher;
 use matchers::matcher_at;
 use pair::put_field;
@@ -50,17 +51,16 @@ fn size_of(places: &[u16], field: usize) -> usize
 fn put_hit(
     out: &mut [u8],
     at: usize,
-    back: bool,
+    scope: Scope,
     specs: &[u8],
     m: Matcher,
     items: &[u8],
     places: &[u16],
-    n: usize,
     hit: usize,
 ) -> usize
-    requires { ⌜ Ready (now specs) m × PlacesIn (now items) (now places) n × (hit / hitStride ≤ specCount) × (hit % hitStride ≤ n) × (0 < length (underSpec back (now items) (now places) hit (specOf (now specs) m)))
-        × (at + length (underSpec back (now items) (now places) hit (specOf (now specs) m)) ≤ length (now out)) ⌝ }
-    ensures { λ r. ⌜ Put (now (out .entry)) at (underSpec back (now (items .entry)) (now (places .entry)) hit (specOf (now (specs .entry)) m)) (now (out .exit)) r ⌝ }
+    requires { ⌜ Ready (now specs) m × PlacesIn (now items) (now places) (scope .names) × (hit / hitStride ≤ specCount) × (hit % hitStride ≤ scope .names) × (0 < length (underSpec (scope .back) (now items) (now places) hit (specOf (now specs) m)))
+        × (at + length (underSpec (scope .back) (now items) (now places) hit (specOf (now specs) m)) ≤ length (now out)) ⌝ }
+    ensures { λ r. ⌜ Put (now (out .entry)) at (underSpec (scope .back) (now (items .entry)) (now (places .entry)) hit (specOf (now (specs .entry)) m)) (now (out .exit)) r ⌝ }
 {
     let field = hit % HIT_STRIDE;
     let start = start_of(places, field);
@@ -68,7 +68,7 @@ fn put_hit(
     put_field(
         out,
         at,
-        back,
+        scope.back,
         specs,
         m,
         hit / HIT_STRIDE,
@@ -77,32 +77,29 @@ fn put_hit(
     )
 }
 
-// Writes what the first `noted` of some hits give, and answers the place after it.
+// Writes what some hits give, and answers the place after it.
 pub fn put_hits(
     out: &mut [u8],
     at: usize,
-    back: bool,
+    scope: Scope,
     specs: &[u8],
     table: &[u16],
-    group: usize,
     items: &[u8],
     places: &[u16],
-    n: usize,
     hits: &[u32],
-    noted: usize,
 ) -> usize
-    requires { ⌜ TableReady (now specs) (now table) group × PlacesIn (now items) (now places) n × AllGood back (now specs) (now table) group (now items) (now places) n (now hits) noted
-        × (at + length (each (take noted (now hits)) (hitBytes back (now specs) (now table) (now items) (now places))) ≤ length (now out)) ⌝ }
-    ensures { λ r. ⌜ Put (now (out .entry)) at (each (take noted (now (hits .entry))) (hitBytes back (now (specs .entry)) (now (table .entry)) (now (items .entry)) (now (places .entry)))) (now (out .exit)) r ⌝ }
+    requires { ⌜ TableReady (now specs) (now table) (scope .specs) × PlacesIn (now items) (now places) (scope .names) × AllGood (scope .back) (now specs) (now table) (scope .specs) (now items) (now places) (scope .names) (now hits)
+        × (at + length (each (now hits) (hitBytes (scope .back) (now specs) (now table) (now items) (now places))) ≤ length (now out)) ⌝ }
+    ensures { λ r. ⌜ Put (now (out .entry)) at (each (now (hits .entry)) (hitBytes (scope .back) (now (specs .entry)) (now (table .entry)) (now (items .entry)) (now (places .entry)))) (now (out .exit)) r ⌝ }
 {
-    if noted == 0 {
+    if hits.len() == 0 {
         return at;
     }
     let mut end = at;
     let mut last = 0;
     let mut m = matcher_at(table, 0);
     let mut k = 0;
-    while k < noted {
+    while k < hits.len() {
         let hit = wider(hits[k]);
         let i = hit / HIT_STRIDE;
         // Hits of one spec stand together, so its matcher is read once.
@@ -110,7 +107,7 @@ pub fn put_hits(
             m = matcher_at(table, i);
             last = i;
         }
-        end = put_hit(out, end, back, specs, m, items, places, n, hit);
+        end = put_hit(out, end, scope, specs, m, items, places, hit);
         k += 1;
     }
     end

@@ -22,9 +22,10 @@ use Rattle.parse.proofs.Parts.{part-length}
 use Rattle.refspec.specs.Instructions.{sideText}
 use Rattle.matcher.specs.declared.types.Lead.{Lead}
 use Rattle.matcher.specs.declared.types.Lead.the-variants as lead
+use Rattle.matcher.specs.declared.types.Filled.{Filled}
 use Rattle.matcher.specs.declared.types.Made.{Made}
 use Rattle.matcher.specs.declared.types.Made.the-variants as made
-use Rattle.matcher.specs.Matching.{ledText, madeMeant, MadeWithin, FilledWithin}
+use Rattle.matcher.specs.Matching.{ledText, filledText, madeMeant, MadeWithin, FilledWithin}
 use Rattle.made.specs.Leads.{leadSize, madeMost}
 
 -- ---- how many bytes
@@ -88,35 +89,37 @@ module _ (specs name : Text) (m : Made) where
     pub made-led-text : ledText l (sideText specs s) ≡ orEmpty (madeMeant specs name m)
     made-led-text = rw is
 
-  module _ (start a from b end c : ℕ) (is : m ≡ made.Filled start a from b end c) where
+  module _ (f : Filled) (is : m ≡ made.Filled f) where
     -- so does a pattern that is filled
-    pub made-filled-within : (len nameLen : ℕ) → MadeWithin len nameLen m → FilledWithin len nameLen start a from b end c
+    pub made-filled-within : (len nameLen : ℕ) → MadeWithin len nameLen m → FilledWithin len nameLen f
     made-filled-within len nameLen h = rw is at h
 
-    pub made-filled-text : partAt specs start a ++ (partAt name from b ++ partAt specs end c) ≡ orEmpty (madeMeant specs name m)
+    pub made-filled-text : filledText specs name f ≡ orEmpty (madeMeant specs name m)
     made-filled-text = rw is
 
     module _ (w : MadeWithin (length specs) (length name) m) where
-      inside : FilledWithin (length specs) (length name) start a from b end c
+      inside : FilledWithin (length specs) (length name) f
       inside = made-filled-within (length specs) (length name) w
 
-      pub start-few : length specs ≤ specListBytes → a ≤ specListBytes
+      pub start-few : length specs ≤ specListBytes → f .«start_len» ≤ specListBytes
       start-few h = omega (arith, inside .start-within)
 
-      pub capture-few : length name ≤ nameBytes → b ≤ nameBytes
+      pub capture-few : length name ≤ nameBytes → f .len ≤ nameBytes
       capture-few h = omega (arith, inside .capture-within)
 
-      pub end-few : length specs ≤ specListBytes → c ≤ specListBytes
+      pub end-few : length specs ≤ specListBytes → f .«end_len» ≤ specListBytes
       end-few h = omega (arith, inside .end-within)
 
       -- it has the bytes of its three parts
-      pub made-filled-size : (r : ℕ) → r ≡ a + (b + c) → r ≡ length (orEmpty (madeMeant specs name m))
+      pub made-filled-size : (r : ℕ) → r ≡ f .«start_len» + (f .len + f .«end_len») → r ≡ length (orEmpty (madeMeant specs name m))
       made-filled-size r e =
-          let p = part-length specs start a (inside .start-within) in
-          let q = part-length name from b (inside .capture-within) in
-          let t = part-length specs end c (inside .end-within) in
-          let n : length (partAt specs start a ++ (partAt name from b ++ partAt specs end c)) ≡ a + (b + c) =
-          omega (arith, length-append (partAt specs start a) (partAt name from b ++ partAt specs end c), length-append (partAt name from b) (partAt specs end c)) in
+          let a = partAt specs (f .start) (f .«start_len») in
+          let b = partAt name (f .from) (f .len) in
+          let c = partAt specs (f .end) (f .«end_len») in
+          let p = part-length specs (f .start) (f .«start_len») (inside .start-within) in
+          let q = part-length name (f .from) (f .len) (inside .capture-within) in
+          let t = part-length specs (f .end) (f .«end_len») (inside .end-within) in
+          let n : length (filledText specs name f) ≡ f .«start_len» + (f .len + f .«end_len») = omega (arith, length-append a (b ++ c), length-append b c) in
           e ∙ sym n ∙ ap length made-filled-text
 
 -- ---- writing

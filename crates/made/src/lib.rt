@@ -8,8 +8,9 @@ ghost use Rattle.meaning.specs.Limits.{specListBytes, nameBytes};
 ghost use Rattle.buffer.specs.Splice.{splice};
 ghost use Rattle.parse.specs.Places.{partAt, Within};
 ghost use Rattle.refspec.specs.Instructions.{sideText};
-ghost use Rattle.matcher.specs.Matching.{ledText, FilledWithin, madeMeant, MadeWithin};
+ghost use Rattle.matcher.specs.Matching.{ledText, filledText, FilledWithin, madeMeant, MadeWithin};
 ghost use Rattle.made.specs.Leads.{leadSize, madeMost};
+use matcher::types::Filled;
 use matcher::types::Lead;
 use matcher::types::Made;
 use parse::types::Side;
@@ -54,12 +55,7 @@ pub fn made_size(specs: &[u8], name: &[u8], made: Made) -> usize
         Made::Absent => 0,
         Made::Name => name.len(),
         Made::Led(lead, side) => led_size(specs, lead, side),
-        Made::Filled {
-            start_len,
-            len,
-            end_len,
-            ..
-        } => parts_size(start_len, len, end_len),
+        Made::Filled(f) => parts_size(f.start_len, f.len, f.end_len),
     }
 }
 
@@ -114,26 +110,14 @@ fn put_led(out: &mut [u8], at: usize, specs: &[u8], lead: Lead, side: Side) -> u
 }
 
 // Writes a part of the specs, a part of the name and a part of the specs, and answers the place after them.
-fn put_filled(
-    out: &mut [u8],
-    at: usize,
-    specs: &[u8],
-    name: &[u8],
-    start: usize,
-    before: usize,
-    from: usize,
-    len: usize,
-    end: usize,
-    after: usize,
-) -> usize
-    requires { ⌜ FilledWithin (length (now specs)) (length (now name)) start before from len end after
-        × (at + length (partAt (now specs) start before ++ (partAt (now name) from len ++ partAt (now specs) end after)) ≤ length (now out)) ⌝ }
-    ensures { λ r. ⌜ (now (out .exit) ≡ splice (now (out .entry)) at (partAt (now (specs .entry)) start before ++ (partAt (now (name .entry)) from len ++ partAt (now (specs .entry)) end after)))
-        × (r ≡ at + length (partAt (now (specs .entry)) start before ++ (partAt (now (name .entry)) from len ++ partAt (now (specs .entry)) end after))) ⌝ }
+fn put_filled(out: &mut [u8], at: usize, specs: &[u8], name: &[u8], f: Filled) -> usize
+    requires { ⌜ FilledWithin (length (now specs)) (length (now name)) f × (at + length (filledText (now specs) (now name) f) ≤ length (now out)) ⌝ }
+    ensures { λ r. ⌜ (now (out .exit) ≡ splice (now (out .entry)) at (filledText (now (specs .entry)) (now (name .entry)) f))
+        × (r ≡ at + length (filledText (now (specs .entry)) (now (name .entry)) f)) ⌝ }
 {
-    let i = put_part(out, at, specs, start, before);
-    let j = put_part(out, i, name, from, len);
-    put_part(out, j, specs, end, after)
+    let i = put_part(out, at, specs, f.start, f.start_len);
+    let j = put_part(out, i, name, f.from, f.len);
+    put_part(out, j, specs, f.end, f.end_len)
 }
 
 // Writes the text that a match makes, and answers the place after it.
@@ -147,24 +131,6 @@ pub fn put_made(out: &mut [u8], at: usize, specs: &[u8], name: &[u8], made: Made
         // A part is lent by its place and length: the slice `name`, just stored in two halves, is slow to load in one.
         Made::Name => put_part(out, at, name, 0, name.len()),
         Made::Led(lead, side) => put_led(out, at, specs, lead, side),
-        Made::Filled {
-            start,
-            start_len,
-            from,
-            len,
-            end,
-            end_len,
-        } => put_filled(
-            out,
-            at,
-            specs,
-            name,
-            start,
-            start_len,
-            from,
-            len,
-            end,
-            end_len,
-        ),
+        Made::Filled(f) => put_filled(out, at, specs, name, f),
     }
 }

@@ -14,7 +14,7 @@ use Rattle.meaning.specs.Entries.{_andThen_, matchLhs, matchRhs}
 use Rattle.meaning.specs.Rows.{Row, rowListOf}
 use Rattle.meaning.specs.Listing.{forwardRows, reverseRows}
 use Rattle.pair.specs.Pairs.{itemBytes, objectBytes}
-use Rattle.hits.specs.Hits.{groupGives, objectsGive, objectHits}
+use Rattle.hits.specs.Hits.{groupGives, objectsGive, groupHits, objectHits}
 
 -- how many specs are few
 abbrev pub fewSpecs : ℕ
@@ -65,6 +65,10 @@ firstHits false specs table group = objectHits specs table group
 -- the bytes of a listing of a table and of places
 abbrev pub tableBytes : Bool → (Text → Bool) → Text → List ℕ → ℕ → Text → List ℕ → ℕ → Text
 tableBytes back gone specs table group items places n = firstBytes back specs table group ++ groupGives back gone specs table group items places n
+
+-- and their hits
+abbrev pub tableHits : Bool → (Text → Bool) → Text → List ℕ → ℕ → Text → List ℕ → ℕ → List ℕ
+tableHits back gone specs table group items places n = firstHits back specs table group ++ groupHits back gone specs table group items places n
 
 -- so many hits, if there was room for all, are these
 pub record Noted (hits : List ℕ) (noted : ℕ) (codes : List ℕ) : Type 0 where

@@ -9,22 +9,32 @@ ghost use Rattle.meaning.specs.Buffers.{MeetsOne};
 ghost use Rattle.buffer.specs.Splice.{splice};
 ghost use Rattle.exclude.specs.Negatives.{excludedBy};
 ghost use Rattle.pair.specs.Asking.{Askable, Put};
-ghost use Rattle.hits.specs.Hits.{specGives, groupGives, groupHits};
-ghost use Rattle.hits.specs.Noting.{groupMost, objectsMost, hitRoom, PlacesIn, TableReady};
-ghost use Rattle.match_group.specs.Listing.{firstBytes, firstHits, tableBytes, Noted};
+ghost use Rattle.hits.specs.Hits.{specGives};
+ghost use Rattle.hits.specs.Noting.{objectsMost, hitRoom, PlacesIn, TableReady, Adds};
+ghost use Rattle.match_group.specs.Listing.{firstBytes, firstHits, tableBytes, tableHits, Noted};
 use buffer::written::Written;
 use hits::found::Found;
+use hits::found::HIT_ROOM;
 use hits::found::objects_found;
 use hits::found::spec_found;
 use hits::found::specs_found;
 use hits::put::put_hits;
-use limits::ITEM_COUNT;
+use hits::scope::Scope;
+use hits::scope::Turn;
+
+// The hits that are noted: how many of them are of object sources, which stand first, and how many all are; more than there is room for
+// where one was not noted.
+struct Notes {
+    scope: Scope,
+    objects: usize,
+    all: usize,
+}
 
 // Measures and notes what comes first: forward, the rows of object sources, whatever the items.
 fn first_found(back: bool, specs: &[u8], table: &[u16], group: usize, hits: &mut [u32]) -> Found
-    requires { ⌜ TableReady (now specs) (now table) group × (group ≤ length (now hits)) × (length (now hits) ≤ hitRoom) ⌝ }
+    requires { ⌜ TableReady (now specs) (now table) group × (length (now hits) ≤ hitRoom) ⌝ }
     ensures { λ x. ⌜ (x .size ≡ length (firstBytes back (now (specs .entry)) (now (table .entry)) group)) × (x .size ≤ objectsMost)
-        × Noted (now (hits .exit)) (x .hits) (firstHits back (now (specs .entry)) (now (table .entry)) group) × (x .hits ≤ length (now (hits .exit))) ⌝ }
+        × Adds (now (hits .entry)) 0 (firstHits back (now (specs .entry)) (now (table .entry)) group) (now (hits .exit)) (x .hits) ⌝ }
 {
     if back {
         return Found { size: 0, hits: 0 };
@@ -32,261 +42,123 @@ fn first_found(back: bool, specs: &[u8], table: &[u16], group: usize, hits: &mut
     objects_found(specs, table, group, hits)
 }
 
-// Writes what spec i gives, by another search for its hits, of which there are no more than names. Answers the place after it.
+// Writes what one spec gives in its turn, by another search for its hits, of which there are no more than names. Answers the place after it.
 fn put_spec(
     out: &mut [u8],
-    at: usize,
-    back: bool,
     specs: &[u8],
     table: &[u16],
-    group: usize,
-    i: usize,
     items: &[u8],
     places: &[u16],
-    n: usize,
     negatives: &[u16],
-    count: usize,
     hits: &mut [u32],
+    turn: Turn,
 ) -> usize
-    requires { ⌜ TableReady (now specs) (now table) group × PlacesIn (now items) (now places) n × Askable (now specs) (now negatives) count × (i < group) × (n ≤ length (now hits)) × (length (now hits) ≤ hitRoom)
-        × (at + length (specGives back (excludedBy (now specs) (now negatives) count) (now specs) (now table) (now items) (now places) n i) ≤ length (now out)) ⌝ }
-    ensures { λ r. ⌜ Put (now (out .entry)) at (specGives back (excludedBy (now (specs .entry)) (now (negatives .entry)) count) (now (specs .entry)) (now (table .entry)) (now (items .entry)) (now (places .entry)) n i) (now (out .exit)) r × (length (now (hits .exit)) ≡ length (now (hits .entry))) ⌝ }
+    requires { ⌜ TableReady (now specs) (now table) (turn .scope .specs) × PlacesIn (now items) (now places) (turn .scope .names) × Askable (now specs) (now negatives) (turn .scope .negatives) × (turn .spec < turn .scope .specs) × (turn .scope .names ≤ length (now hits)) × (length (now hits) ≤ hitRoom)
+        × (turn .at + length (specGives (turn .scope .back) (excludedBy (now specs) (now negatives) (turn .scope .negatives)) (now specs) (now table) (now items) (now places) (turn .scope .names) (turn .spec)) ≤ length (now out)) ⌝ }
+    ensures { λ r. ⌜ Put (now (out .entry)) (turn .at) (specGives (turn .scope .back) (excludedBy (now (specs .entry)) (now (negatives .entry)) (turn .scope .negatives)) (now (specs .entry)) (now (table .entry)) (now (items .entry)) (now (places .entry)) (turn .scope .names) (turn .spec)) (now (out .exit)) r × (length (now (hits .exit)) ≡ length (now (hits .entry))) ⌝ }
 {
-    let x = spec_found(
-        back,
-        specs,
-        table,
-        group,
-        i,
-        items,
-        places,
-        n,
-        negatives,
-        count,
-        hits,
-        0,
-    );
+    let scope = turn.scope;
+    let search = Turn {
+        scope,
+        spec: turn.spec,
+        at: 0,
+    };
+    let x = spec_found(search, specs, table, items, places, negatives, hits);
+    let noted = x.hits;
     put_hits(
         out,
-        at,
-        back,
+        turn.at,
+        scope,
         specs,
         table,
-        group,
         items,
         places,
-        n,
-        hits,
-        x.hits,
+        &hits[..noted],
     )
 }
 
-// Writes what all specs give, one after the other, and answers the place after it.
-fn put_specs(
+// Writes a listing not all of whose hits are noted: what comes first by its hits, and what the specs give, one after the other.
+fn put_again(
     out: &mut [u8],
-    at: usize,
-    back: bool,
     specs: &[u8],
     table: &[u16],
-    group: usize,
     items: &[u8],
     places: &[u16],
-    n: usize,
     negatives: &[u16],
-    count: usize,
     hits: &mut [u32],
-) -> usize
-    requires { ⌜ TableReady (now specs) (now table) group × PlacesIn (now items) (now places) n × Askable (now specs) (now negatives) count × (n ≤ length (now hits)) × (length (now hits) ≤ hitRoom)
-        × (at + length (groupGives back (excludedBy (now specs) (now negatives) count) (now specs) (now table) group (now items) (now places) n) ≤ length (now out)) ⌝ }
-    ensures { λ r. ⌜ Put (now (out .entry)) at (groupGives back (excludedBy (now (specs .entry)) (now (negatives .entry)) count) (now (specs .entry)) (now (table .entry)) group (now (items .entry)) (now (places .entry)) n) (now (out .exit)) r ⌝ }
+    notes: Notes,
+)
+    requires { ⌜ TableReady (now specs) (now table) (notes .scope .specs) × PlacesIn (now items) (now places) (notes .scope .names) × Askable (now specs) (now negatives) (notes .scope .negatives) × (notes .scope .names ≤ length (now hits)) × (length (now hits) ≤ hitRoom)
+        × Noted (now hits) (notes .objects) (firstHits (notes .scope .back) (now specs) (now table) (notes .scope .specs)) × (notes .objects ≤ length (now hits))
+        × (length (tableBytes (notes .scope .back) (excludedBy (now specs) (now negatives) (notes .scope .negatives)) (now specs) (now table) (notes .scope .specs) (now items) (now places) (notes .scope .names)) ≤ length (now out)) ⌝ }
+    ensures { λ _. ⌜ now (out .exit) ≡ splice (now (out .entry)) 0 (tableBytes (notes .scope .back) (excludedBy (now (specs .entry)) (now (negatives .entry)) (notes .scope .negatives)) (now (specs .entry)) (now (table .entry)) (notes .scope .specs) (now (items .entry)) (now (places .entry)) (notes .scope .names)) ⌝ }
 {
-    let mut end = at;
+    let scope = notes.scope;
+    let objects = notes.objects;
+    let group = scope.specs;
+    let mut end = put_hits(out, 0, scope, specs, table, items, places, &hits[..objects]);
     let mut i = 0;
     while i < group {
-        end = put_spec(
-            out,
-            end,
-            back,
-            specs,
-            table,
-            group,
-            i,
-            items,
-            places,
-            n,
-            negatives,
-            count,
-            hits,
-        );
+        let turn = Turn {
+            scope,
+            spec: i,
+            at: end,
+        };
+        end = put_spec(out, specs, table, items, places, negatives, hits, turn);
         i += 1;
     }
-    end
 }
 
-// Writes what all specs give: the hits that were noted, or by another search where not all were. Answers the place after it.
-fn put_found(
-    out: &mut [u8],
-    at: usize,
-    back: bool,
-    specs: &[u8],
-    table: &[u16],
-    group: usize,
-    items: &[u8],
-    places: &[u16],
-    n: usize,
-    negatives: &[u16],
-    count: usize,
-    hits: &mut [u32],
-    noted: usize,
-) -> usize
-    requires { ⌜ TableReady (now specs) (now table) group × PlacesIn (now items) (now places) n × Askable (now specs) (now negatives) count × (n ≤ length (now hits)) × (length (now hits) ≤ hitRoom)
-        × Noted (now hits) noted (groupHits back (excludedBy (now specs) (now negatives) count) (now specs) (now table) group (now items) (now places) n) × (at + length (groupGives back (excludedBy (now specs) (now negatives) count) (now specs) (now table) group (now items) (now places) n) ≤ length (now out)) ⌝ }
-    ensures { λ r. ⌜ Put (now (out .entry)) at (groupGives back (excludedBy (now (specs .entry)) (now (negatives .entry)) count) (now (specs .entry)) (now (table .entry)) group (now (items .entry)) (now (places .entry)) n) (now (out .exit)) r ⌝ }
-{
-    if hits.len() < noted {
-        return put_specs(
-            out,
-            at,
-            back,
-            specs,
-            table,
-            group,
-            items,
-            places,
-            n,
-            negatives,
-            count,
-            hits,
-        );
-    }
-    put_hits(
-        out,
-        at,
-        back,
-        specs,
-        table,
-        group,
-        items,
-        places,
-        n,
-        hits,
-        noted,
-    )
-}
-
-// Writes a listing at the start of the buffer: what comes first, and what the specs give for the names.
+// Writes a listing at the start of the buffer: by its hits, or where not all are noted by another search for them.
 fn put_listing(
     out: &mut [u8],
-    back: bool,
     specs: &[u8],
     table: &[u16],
-    group: usize,
     items: &[u8],
     places: &[u16],
-    n: usize,
     negatives: &[u16],
-    count: usize,
-    first: &[u32],
-    noted_first: usize,
     hits: &mut [u32],
-    noted: usize,
+    notes: Notes,
 )
-    requires { ⌜ TableReady (now specs) (now table) group × PlacesIn (now items) (now places) n × Askable (now specs) (now negatives) count × Noted (now first) «noted_first» (firstHits back (now specs) (now table) group) × («noted_first» ≤ length (now first))
-        × (n ≤ length (now hits)) × (length (now hits) ≤ hitRoom) × Noted (now hits) noted (groupHits back (excludedBy (now specs) (now negatives) count) (now specs) (now table) group (now items) (now places) n)
-        × (length (tableBytes back (excludedBy (now specs) (now negatives) count) (now specs) (now table) group (now items) (now places) n) ≤ length (now out)) ⌝ }
-    ensures { λ _. ⌜ now (out .exit) ≡ splice (now (out .entry)) 0 (tableBytes back (excludedBy (now (specs .entry)) (now (negatives .entry)) count) (now (specs .entry)) (now (table .entry)) group (now (items .entry)) (now (places .entry)) n) ⌝ }
+    requires { ⌜ TableReady (now specs) (now table) (notes .scope .specs) × PlacesIn (now items) (now places) (notes .scope .names) × Askable (now specs) (now negatives) (notes .scope .negatives) × (notes .scope .names ≤ length (now hits)) × (length (now hits) ≤ hitRoom)
+        × Noted (now hits) (notes .objects) (firstHits (notes .scope .back) (now specs) (now table) (notes .scope .specs)) × (notes .objects ≤ length (now hits))
+        × Noted (now hits) (notes .all) (tableHits (notes .scope .back) (excludedBy (now specs) (now negatives) (notes .scope .negatives)) (now specs) (now table) (notes .scope .specs) (now items) (now places) (notes .scope .names))
+        × (length (tableBytes (notes .scope .back) (excludedBy (now specs) (now negatives) (notes .scope .negatives)) (now specs) (now table) (notes .scope .specs) (now items) (now places) (notes .scope .names)) ≤ length (now out)) ⌝ }
+    ensures { λ _. ⌜ now (out .exit) ≡ splice (now (out .entry)) 0 (tableBytes (notes .scope .back) (excludedBy (now (specs .entry)) (now (negatives .entry)) (notes .scope .negatives)) (now (specs .entry)) (now (table .entry)) (notes .scope .specs) (now (items .entry)) (now (places .entry)) (notes .scope .names)) ⌝ }
 {
-    let at = put_hits(
-        out,
-        0,
-        back,
-        specs,
-        table,
-        group,
-        items,
-        places,
-        n,
-        first,
-        noted_first,
-    );
-    put_found(
-        out,
-        at,
-        back,
-        specs,
-        table,
-        group,
-        items,
-        places,
-        n,
-        negatives,
-        count,
-        hits,
-        noted,
-    );
+    let scope = notes.scope;
+    let all = notes.all;
+    if hits.len() < all {
+        put_again(out, specs, table, items, places, negatives, hits, notes);
+        return;
+    }
+    put_hits(out, 0, scope, specs, table, items, places, &hits[..all]);
 }
 
-// Measures and notes what the specs give for the names.
-fn rows_found(
-    back: bool,
-    specs: &[u8],
-    table: &[u16],
-    group: usize,
-    items: &[u8],
-    places: &[u16],
-    n: usize,
-    negatives: &[u16],
-    count: usize,
-    hits: &mut [u32],
-) -> Found
-    requires { ⌜ TableReady (now specs) (now table) group × PlacesIn (now items) (now places) n × Askable (now specs) (now negatives) count × (length (now hits) ≤ hitRoom) ⌝ }
-    ensures { λ x. ⌜ (x .size ≡ length (groupGives back (excludedBy (now (specs .entry)) (now (negatives .entry)) count) (now (specs .entry)) (now (table .entry)) group (now (items .entry)) (now (places .entry)) n)) × (x .size ≤ groupMost)
-        × Noted (now (hits .exit)) (x .hits) (groupHits back (excludedBy (now (specs .entry)) (now (negatives .entry)) count) (now (specs .entry)) (now (table .entry)) group (now (items .entry)) (now (places .entry)) n) × (length (now (hits .exit)) ≡ length (now (hits .entry))) ⌝ }
-{
-    specs_found(
-        back,
-        specs,
-        table,
-        group,
-        items,
-        places,
-        n,
-        negatives,
-        count,
-        hits,
-    )
-}
-
-// A listing whose hits are noted in `first` and `hits`.
+// A listing whose hits are noted in a table with room for those of objects, and for those of a spec.
 fn list_rows(
-    back: bool,
+    scope: Scope,
     specs: &[u8],
     table: &[u16],
-    group: usize,
     items: &[u8],
     places: &[u16],
-    n: usize,
     negatives: &[u16],
-    count: usize,
-    first: &mut [u32],
     hits: &mut [u32],
     out: &mut [u8],
 ) -> Written
-    requires { ⌜ TableReady (now specs) (now table) group × PlacesIn (now items) (now places) n × Askable (now specs) (now negatives) count × (group ≤ length (now first)) × (length (now first) ≤ hitRoom) × (n ≤ length (now hits)) × (length (now hits) ≤ hitRoom) ⌝ }
-    ensures { λ w. ⌜ MeetsOne (accepted (some (tableBytes back (excludedBy (now (specs .entry)) (now (negatives .entry)) count) (now (specs .entry)) (now (table .entry)) group (now (items .entry)) (now (places .entry)) n) ∷ [])) (now (out .entry)) (now (out .exit)) (w .refusal) (w .record) (w .length) ⌝ }
+    requires { ⌜ TableReady (now specs) (now table) (scope .specs) × PlacesIn (now items) (now places) (scope .names) × Askable (now specs) (now negatives) (scope .negatives) × (scope .specs ≤ length (now hits)) × (scope .names ≤ length (now hits)) × (length (now hits) ≤ hitRoom) ⌝ }
+    ensures { λ w. ⌜ MeetsOne (accepted (some (tableBytes (scope .back) (excludedBy (now (specs .entry)) (now (negatives .entry)) (scope .negatives)) (now (specs .entry)) (now (table .entry)) (scope .specs) (now (items .entry)) (now (places .entry)) (scope .names)) ∷ [])) (now (out .entry)) (now (out .exit)) (w .refusal) (w .record) (w .length) ⌝ }
 {
-    let objects = first_found(back, specs, table, group, first);
-    let found = rows_found(
-        back,
+    let objects = first_found(scope.back, specs, table, scope.specs, hits);
+    let found = specs_found(
+        scope,
         specs,
         table,
-        group,
         items,
         places,
-        n,
         negatives,
-        count,
         hits,
+        objects.hits,
     );
     let size = objects.size + found.size;
     if out.len() < size {
@@ -296,22 +168,12 @@ fn list_rows(
             length: size as u64,
         };
     }
-    put_listing(
-        out,
-        back,
-        specs,
-        table,
-        group,
-        items,
-        places,
-        n,
-        negatives,
-        count,
-        first,
-        objects.hits,
-        hits,
-        found.hits,
-    );
+    let notes = Notes {
+        scope,
+        objects: objects.hits,
+        all: found.hits,
+    };
+    put_listing(out, specs, table, items, places, negatives, hits, notes);
     Written {
         refusal: 0,
         record: 0,
@@ -319,35 +181,27 @@ fn list_rows(
     }
 }
 
-// The listing of a group in its tables, with room for the hits of objects.
+// The listing of a group in its tables, with room for hits.
 pub(crate) fn list_group(
-    back: bool,
+    scope: Scope,
     specs: &[u8],
     table: &[u16],
-    group: usize,
     items: &[u8],
     places: &[u16],
-    n: usize,
     negatives: &[u16],
-    count: usize,
-    first: &mut [u32],
     out: &mut [u8],
 ) -> Written
-    requires { ⌜ TableReady (now specs) (now table) group × PlacesIn (now items) (now places) n × Askable (now specs) (now negatives) count × (group ≤ length (now first)) × (length (now first) ≤ hitRoom) ⌝ }
-    ensures { λ w. ⌜ MeetsOne (accepted (some (tableBytes back (excludedBy (now (specs .entry)) (now (negatives .entry)) count) (now (specs .entry)) (now (table .entry)) group (now (items .entry)) (now (places .entry)) n) ∷ [])) (now (out .entry)) (now (out .exit)) (w .refusal) (w .record) (w .length) ⌝ }
+    requires { ⌜ TableReady (now specs) (now table) (scope .specs) × PlacesIn (now items) (now places) (scope .names) × Askable (now specs) (now negatives) (scope .negatives) ⌝ }
+    ensures { λ w. ⌜ MeetsOne (accepted (some (tableBytes (scope .back) (excludedBy (now (specs .entry)) (now (negatives .entry)) (scope .negatives)) (now (specs .entry)) (now (table .entry)) (scope .specs) (now (items .entry)) (now (places .entry)) (scope .names)) ∷ [])) (now (out .entry)) (now (out .exit)) (w .refusal) (w .record) (w .length) ⌝ }
 {
-    let mut hits = [0u32; ITEM_COUNT];
+    let mut hits = [0u32; HIT_ROOM];
     list_rows(
-        back,
+        scope,
         specs,
         table,
-        group,
         items,
         places,
-        n,
         negatives,
-        count,
-        first,
         &mut hits,
         out,
     )

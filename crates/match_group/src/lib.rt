@@ -7,7 +7,6 @@ ghost use Rattle.meaning.specs.Entries.{matchLhs, matchRhs};
 ghost use Rattle.spec_list.specs.Group.{groupMeant};
 ghost use Rattle.matchers.specs.Numbers.{matcherNumbers};
 ghost use Rattle.exclude.specs.Negatives.{negativeNumbers};
-ghost use Rattle.hits.specs.Noting.{hitRoom};
 ghost use Rattle.noted.specs.Reading.{Grouped};
 ghost use Rattle.match_group.specs.Listing.{fewSpecs, listing, listed};
 
@@ -16,6 +15,7 @@ mod group;
 use buffer::written::Written;
 use exclude::NEGATIVE_NUMBERS;
 use group::list_group;
+use hits::scope::Scope;
 use limits::ITEM_COUNT;
 use limits::SPEC_COUNT;
 use list::places::read_places;
@@ -59,10 +59,9 @@ fn list_in(
     items: &[u8],
     table: &mut [u16],
     negatives: &mut [u16],
-    first: &mut [u32],
     out: &mut [u8],
 ) -> Written
-    requires { ⌜ Grouped (now specs) records n × (matcherNumbers * n ≤ length (now table)) × (negativeNumbers * n ≤ length (now negatives)) × (n ≤ length (now first)) × (length (now first) ≤ hitRoom) ⌝ }
+    requires { ⌜ Grouped (now specs) records n × (matcherNumbers * n ≤ length (now table)) × (negativeNumbers * n ≤ length (now negatives)) ⌝ }
     ensures { λ w. ⌜ MeetsOne (listing back (groupMeant (now (specs .entry)) (take n records)) (now (items .entry))) (now (out .entry)) (now (out .exit)) (w .refusal) (w .record) (w .length) ⌝ }
 {
     let count = note_group(specs, records, n, table, negatives);
@@ -71,19 +70,13 @@ fn list_in(
     if c.refusal != 0 {
         return refused(c.refusal, c.record);
     }
-    list_group(
+    let scope = Scope {
         back,
-        specs,
-        table,
-        n,
-        items,
-        &places,
-        c.count,
-        negatives,
-        count,
-        first,
-        out,
-    )
+        specs: n,
+        names: c.count,
+        negatives: count,
+    };
+    list_group(scope, specs, table, items, &places, negatives, out)
 }
 
 // The listing of a group of few specs: small tables are sooner cleared.
@@ -100,7 +93,6 @@ fn list_few(
 {
     let mut table = [0u16; FEW_TABLE];
     let mut negatives = [0u16; FEW_NEGATIVES];
-    let mut first = [0u32; FEW];
     list_in(
         back,
         specs,
@@ -109,7 +101,6 @@ fn list_few(
         items,
         &mut table,
         &mut negatives,
-        &mut first,
         out,
     )
 }
@@ -128,7 +119,6 @@ fn list_many(
 {
     let mut table = [0u16; TABLE];
     let mut negatives = [0u16; NEGATIVES];
-    let mut first = [0u32; SPEC_COUNT];
     list_in(
         back,
         specs,
@@ -137,7 +127,6 @@ fn list_many(
         items,
         &mut table,
         &mut negatives,
-        &mut first,
         out,
     )
 }

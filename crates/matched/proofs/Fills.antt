@@ -18,7 +18,7 @@ use Rattle.refspec.specs.Instructions.{sideText}
 use Rattle.matcher.specs.declared.types.Made.{Made}
 use Rattle.matcher.specs.declared.types.Made.the-variants as made
 use Rattle.matcher.specs.Matching.{madeMeant, MadeWithin, StarIn}
-use Rattle.matched.specs.Answers.{filledPlace}
+use Rattle.matched.specs.Answers.{filledAt, filledPlace}
 
 -- the arm of a `match` on a side that is a part
 module _ (s : Side) (at n : ℕ) (is : s ≡ side.Part at n) where
@@ -27,7 +27,7 @@ module _ (s : Side) (at n : ℕ) (is : s ≡ side.Part at n) where
   star-part star h = rw is at h
 
   -- its places
-  pub filled-is : (star from len : ℕ) (r : Made) → r ≡ made.Filled at star from len (at + star + 1) (n - star - 1) → r ≡ filledPlace s star from len
+  pub filled-is : (star from len : ℕ) (r : Made) → r ≡ made.Filled (filledAt at n star from len) → r ≡ filledPlace s star from len
   filled-is star from len r h = rw is h
 
 -- the star of a side stands below the length of its text

@@ -17,16 +17,21 @@ use Rattle.matcher.specs.declared.types.Needle.the-variants as needle
 use Rattle.matcher.specs.declared.types.Lead.the-variants as lead
 use Rattle.matcher.specs.declared.types.Target.{Target}
 use Rattle.matcher.specs.declared.types.Target.the-variants as target
+use Rattle.matcher.specs.declared.types.Filled.{Filled}
 use Rattle.matcher.specs.declared.types.Made.{Made}
 use Rattle.matcher.specs.declared.types.Made.the-variants as made
 use Rattle.matcher.specs.declared.types.Ends.{Ends}
 use Rattle.matcher.specs.declared.types.Ends.the-variants as ends
 use Rattle.matcher.specs.Matching.{ledText, endsMeant, EndsWithin}
 
--- a pattern with n bytes of the name, from a place on, for its star; only a part of the spec list has a star
+-- the places of the pattern of so many bytes that begins at a place, with n bytes of the name, from a place on, for its star
+abbrev pub filledAt : ℕ → ℕ → ℕ → ℕ → ℕ → Filled
+filledAt at size star from n = record { start = at; «start_len» = star; from = from; len = n; end = at + star + 1; «end_len» = size - star - 1 }
+
+-- a side that is such a pattern; only a part of the spec list has a star
 abbrev pub filledPlace : Side → ℕ → ℕ → ℕ → Made
 filledPlace side.Absent star from n = made.Absent
-filledPlace (side.Part at size) star from n = made.Filled at star from n (at + star + 1) (size - star - 1)
+filledPlace (side.Part at size) star from n = made.Filled (filledAt at size star from n)
 filledPlace side.Head star from n = made.Absent
 
 -- the ends of a name that was matched as a whole

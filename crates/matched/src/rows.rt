@@ -10,10 +10,11 @@ ghost use Rattle.glob.specs.Captures.{captureMeant, CaptureWithin};
 ghost use Rattle.parse.specs.Places.{Within};
 ghost use Rattle.refspec.specs.Instructions.{sideText};
 ghost use Rattle.matcher.specs.Matching.{needleMeant, targetMeant, StarIn, NeedleWithin, TargetWithin};
-ghost use Rattle.matched.specs.Answers.{filledPlace, wholePlaces, caughtPlaces, digitsPlaces, objectPlaces, hitBy, Answers, needleForm, reverseForms, AnswersBack};
+ghost use Rattle.matched.specs.Answers.{filledAt, filledPlace, wholePlaces, caughtPlaces, digitsPlaces, objectPlaces, hitBy, Answers, needleForm, reverseForms, AnswersBack};
 use glob::Captured;
 use glob::glob;
 use matcher::types::Ends;
+use matcher::types::Filled;
 use matcher::types::Lead;
 use matcher::types::Made;
 use matcher::types::Needle;
@@ -24,18 +25,18 @@ use refspec::side::text_of;
 // The pattern of n bytes that begins at `at`, with a part of a name in place of its star.
 fn filled_part(specs: &[u8], at: usize, n: usize, star: usize, from: usize, len: usize) -> Made
     requires { ⌜ (at + n ≤ length (now specs)) × (star < n) ⌝ }
-    ensures { λ r. ⌜ r ≡ Made.Filled at star from len (at + star + 1) (n - star - 1) ⌝ }
+    ensures { λ r. ⌜ r ≡ Made.Filled (filledAt at n star from len) ⌝ }
 {
     let end = at + star + 1;
     let end_len = n - star - 1;
-    Made::Filled {
+    Made::Filled(Filled {
         start: at,
         start_len: star,
         from,
         len,
         end,
         end_len,
-    }
+    })
 }
 
 // A pattern with a part of a name in place of its star.

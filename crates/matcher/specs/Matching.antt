@@ -21,6 +21,7 @@ use Rattle.matcher.specs.declared.types.Lead.the-variants as lead
 use Rattle.matcher.specs.declared.types.Target.{Target}
 use Rattle.matcher.specs.declared.types.Target.the-variants as target
 use Rattle.matcher.specs.declared.types.Matcher.{Matcher}
+use Rattle.matcher.specs.declared.types.Filled.{Filled}
 use Rattle.matcher.specs.declared.types.Made.{Made}
 use Rattle.matcher.specs.declared.types.Made.the-variants as made
 use Rattle.matcher.specs.declared.types.Ends.{Ends}
@@ -34,12 +35,16 @@ ledText lead.Heads t = bytes "refs/heads/" ++ t
 ledText lead.HeadsDigits t = bytes "refs/heads/" ++ lower t
 ledText lead.Digits t = lower t
 
+-- a pattern with the capture for its star, by the bytes of the spec list and the name
+abbrev pub filledText : Text → Text → Filled → Text
+filledText specs name f = partAt specs (f .start) (f .«start_len») ++ (partAt name (f .from) (f .len) ++ partAt specs (f .end) (f .«end_len»))
+
 -- the text that a match makes, by the bytes of the spec list and the name
 abbrev pub madeMeant : Text → Text → Made → Option Text
 madeMeant specs name made.Absent = none
 madeMeant specs name made.Name = some name
 madeMeant specs name (made.Led l s) = some (ledText l (sideText specs s))
-madeMeant specs name (made.Filled start startLen from n end endLen) = some (partAt specs start startLen ++ (partAt name from n ++ partAt specs end endLen))
+madeMeant specs name (made.Filled f) = some (filledText specs name f)
 
 -- the ends of a row
 abbrev pub endsMeant : Text → Text → Ends → Option listing.Ends
@@ -66,18 +71,18 @@ Completes t target.Absent = Unit {0}
 Completes t (target.Pattern star) = Unit {0}
 Completes t (target.Literal l) = completed t ≡ ledText l t
 
--- parts of so many bytes of a spec list and of a name
-pub record FilledWithin (len nameLen start startLen from n end endLen : ℕ) : Type 0 where
-  pub start-within : start + startLen ≤ len
-  pub capture-within : from + n ≤ nameLen
-  pub end-within : end + endLen ≤ len
+-- the parts of a pattern that is filled stand within so many bytes of a spec list and of a name
+pub record FilledWithin (len nameLen : ℕ) (f : Filled) : Type 0 where
+  pub start-within : f .start + f .«start_len» ≤ len
+  pub capture-within : f .from + f .len ≤ nameLen
+  pub end-within : f .end + f .«end_len» ≤ len
 
 -- the places of a text that a match makes stand within so many bytes of a spec list and of a name
 abbrev pub MadeWithin : ℕ → ℕ → Made → Type 0
 MadeWithin len nameLen made.Absent = Unit {0}
 MadeWithin len nameLen made.Name = Unit {0}
 MadeWithin len nameLen (made.Led l s) = Within len s
-MadeWithin len nameLen (made.Filled start startLen from n end endLen) = FilledWithin len nameLen start startLen from n end endLen
+MadeWithin len nameLen (made.Filled f) = FilledWithin len nameLen f
 
 -- the places of a row's ends
 abbrev pub EndsWithin : ℕ → ℕ → Ends → Type 0

@@ -47,6 +47,16 @@ pub struct Matcher {
     pub rhs: Target,
 }
 
+// The places of a pattern with the capture for its star: a part of the spec list, then a part of the name, then a part of the spec list.
+pub struct Filled {
+    pub start: usize,
+    pub start_len: usize,
+    pub from: usize,
+    pub len: usize,
+    pub end: usize,
+    pub end_len: usize,
+}
+
 // A text that a match makes.
 pub enum Made {
     // There is none.
@@ -55,15 +65,8 @@ pub enum Made {
     Name,
     // A side of the spec, led.
     Led(Lead, Side),
-    // A part of the spec list, then a part of the name, then a part of the spec list: a pattern with the capture for its star.
-    Filled {
-        start: usize,
-        start_len: usize,
-        from: usize,
-        len: usize,
-        end: usize,
-        end_len: usize,
-    },
+    // A pattern with the capture for its star.
+    Filled(Filled),
 }
 
 // The ends of a row, or that there is none.

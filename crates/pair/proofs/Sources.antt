@@ -8,11 +8,11 @@ use lib.Seq.{take-append-seam}
 use Rattle.meaning.specs.Bytes.{Text, orEmpty}
 use Rattle.buffer.specs.Splice.{splice}
 use Rattle.buffer.proofs.Splices.{splice-start}
-use Rattle.parse.specs.Places.{partAt}
 use Rattle.parse.proofs.Parts.{part-of}
+use Rattle.matcher.specs.declared.types.Filled.{Filled}
 use Rattle.matcher.specs.declared.types.Made.{Made}
-use Rattle.matcher.specs.declared.types.Made.the-variants.{Name, Filled}
-use Rattle.matcher.specs.Matching.{madeMeant, MadeWithin, FilledWithin}
+use Rattle.matcher.specs.declared.types.Made.the-variants as made
+use Rattle.matcher.specs.Matching.{filledText, madeMeant, MadeWithin, FilledWithin}
 use Rattle.exclude.specs.Negatives.{excludedBy}
 
 -- a text at the front of a buffer is read back
@@ -28,18 +28,17 @@ module _ (d t o : Text) (n : ℕ) (size : n ≡ length t) (e : o ≡ splice d 0 
 
 -- the source of a row
 module _ (specs name : Text) (table : List ℕ) (count : ℕ) (source : Made) where
-  pub name-asked : source ≡ Name → (r : Bool) → r ≡ excludedBy specs table count name → r ≡ excludedBy specs table count (orEmpty (madeMeant specs name source))
+  pub name-asked : source ≡ made.Name → (r : Bool) → r ≡ excludedBy specs table count name → r ≡ excludedBy specs table count (orEmpty (madeMeant specs name source))
   name-asked e r h = rw e h
 
-  pub filled-asked : (start before from len end after : ℕ) → source ≡ Filled start before from len end after
-      → (r : Bool) → r ≡ excludedBy specs table count (partAt specs start before ++ (partAt name from len ++ partAt specs end after)) → r ≡ excludedBy specs table count (orEmpty (madeMeant specs name source))
-  filled-asked start before from len end after e r h = rw e h
+  pub filled-asked : (f : Filled) → source ≡ made.Filled f → (r : Bool) → r ≡ excludedBy specs table count (filledText specs name f) → r ≡ excludedBy specs table count (orEmpty (madeMeant specs name source))
+  filled-asked f e r h = rw e h
 
 -- the pieces of a pattern as they are lent
-pub pieces-asked : (specs name : Text) (table : List ℕ) (count start before from len end after : ℕ) (r : Bool)
-    → r ≡ excludedBy specs table count (take (start + before - start) (drop start specs) ++ (take (from + len - from) (drop from name) ++ take (end + after - end) (drop end specs)))
-    → r ≡ excludedBy specs table count (partAt specs start before ++ (partAt name from len ++ partAt specs end after))
-pieces-asked specs name table count start before from len end after r h = rw (part-of specs start before, part-of name from len, part-of specs end after) at h
+pub pieces-asked : (specs name : Text) (table : List ℕ) (count : ℕ) (f : Filled) (r : Bool)
+    → r ≡ excludedBy specs table count (take (f .start + f .«start_len» - f .start) (drop (f .start) specs) ++ (take (f .from + f .len - f .from) (drop (f .from) name) ++ take (f .end + f .«end_len» - f .end) (drop (f .end) specs)))
+    → r ≡ excludedBy specs table count (filledText specs name f)
+pieces-asked specs name table count f r h = rw (part-of specs (f .start) (f .«start_len»), part-of name (f .from) (f .len), part-of specs (f .end) (f .«end_len»)) at h
 
-pub filled-within : (source : Made) (start before from len end after : ℕ) → source ≡ Filled start before from len end after → (n k : ℕ) → MadeWithin n k source → FilledWithin n k start before from len end after
-filled-within source start before from len end after e n k w = rw e at w
+pub filled-within : (source : Made) (f : Filled) → source ≡ made.Filled f → (n k : ℕ) → MadeWithin n k source → FilledWithin n k f
+filled-within source f e n k w = rw e at w

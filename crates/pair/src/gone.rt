@@ -1,11 +1,9 @@
 // Whether a negative removes a row, by the source of the row.
 ghost use mathlib.Core.Path.{_≡_};
-ghost use mathlib.Core.List.{_++_};
-ghost use Prim.Native.Nat.{_+_, _≤_};
+ghost use Prim.Native.Nat.{_≤_};
 ghost use lib.ListN.{length};
 ghost use Rattle.meaning.specs.Bytes.{orEmpty};
-ghost use Rattle.parse.specs.Places.{partAt};
-ghost use Rattle.matcher.specs.Matching.{madeMeant, MadeWithin, FilledWithin};
+ghost use Rattle.matcher.specs.Matching.{filledText, madeMeant, MadeWithin, FilledWithin};
 ghost use Rattle.exclude.specs.Negatives.{excludedBy};
 ghost use Rattle.row.specs.Rows.{Lent};
 ghost use Rattle.pair.specs.Asking.{sourceMost, Askable};
@@ -15,6 +13,7 @@ use limits::NAME_BYTES;
 use limits::SPEC_BYTES;
 use made::made_size;
 use made::put_made;
+use matcher::types::Filled;
 use matcher::types::Made;
 
 // The source of a row has at most so many bytes.
@@ -47,24 +46,16 @@ fn made_removed(specs: &[u8], name: &[u8], source: Made, negatives: &[u16], coun
 }
 
 // A negative matches a pattern with a capture in place of its star, piece by piece.
-fn filled_removed(
-    specs: &[u8],
-    name: &[u8],
-    start: usize,
-    before: usize,
-    from: usize,
-    len: usize,
-    end: usize,
-    after: usize,
-    negatives: &[u16],
-    count: usize,
-) -> bool
-    requires { ⌜ FilledWithin (length (now specs)) (length (now name)) start before from len end after × Lent (now specs) (now name) × Askable (now specs) (now negatives) count ⌝ }
-    ensures { λ r. ⌜ r ≡ excludedBy (now (specs .entry)) (now (negatives .entry)) count (partAt (now (specs .entry)) start before ++ (partAt (now (name .entry)) from len ++ partAt (now (specs .entry)) end after)) ⌝ }
+fn filled_removed(specs: &[u8], name: &[u8], f: Filled, negatives: &[u16], count: usize) -> bool
+    requires { ⌜ FilledWithin (length (now specs)) (length (now name)) f × Lent (now specs) (now name) × Askable (now specs) (now negatives) count ⌝ }
+    ensures { λ r. ⌜ r ≡ excludedBy (now (specs .entry)) (now (negatives .entry)) count (filledText (now (specs .entry)) (now (name .entry)) f) ⌝ }
 {
-    let start_end = start + before;
-    let capture_end = from + len;
-    let end_end = end + after;
+    let start = f.start;
+    let start_end = start + f.start_len;
+    let from = f.from;
+    let capture_end = from + f.len;
+    let end = f.end;
+    let end_end = end + f.end_len;
     excluded_pieces(
         specs,
         negatives,
@@ -91,25 +82,7 @@ pub(crate) fn removed(
     }
     match source {
         Made::Name => excluded(specs, negatives, count, name),
-        Made::Filled {
-            start,
-            start_len,
-            from,
-            len,
-            end,
-            end_len,
-        } => filled_removed(
-            specs,
-            name,
-            start,
-            start_len,
-            from,
-            len,
-            end,
-            end_len,
-            negatives,
-            count,
-        ),
+        Made::Filled(f) => filled_removed(specs, name, f, negatives, count),
         _ => made_removed(specs, name, source, negatives, count),
     }
 }

@@ -23,6 +23,7 @@ use matched::reverse;
 use matcher::types::Ends;
 use matcher::types::Made;
 use matcher::types::Matcher;
+use row::Numbers;
 use row::put_row;
 use row::row_size;
 
@@ -54,7 +55,13 @@ fn kept_size(
     if removed(specs, name, source, negatives, count) {
         return 0;
     }
-    row_size(specs, name, j + 1, i, 0, source, destination)
+    let item = j + 1;
+    let numbers = Numbers {
+        item,
+        spec: i,
+        kind: 0,
+    };
+    row_size(specs, name, numbers, source, destination)
 }
 
 // How many bytes item j takes under spec i.
@@ -85,7 +92,12 @@ fn made_object_size(specs: &[u8], i: usize, source: Made, destination: Made) -> 
     requires { ⌜ Lent (now specs) [] × (i ≤ specCount) × MadeWithin (length (now specs)) 0 source × MadeWithin (length (now specs)) 0 destination ⌝ }
     ensures { λ r. ⌜ (r ≡ length (rowBytes (rowMeant (now (specs .entry)) [] 0 i 1 source destination))) × (r ≤ rowMost) ⌝ }
 {
-    row_size(specs, &specs[..0], 0, i, 1, source, destination)
+    let numbers = Numbers {
+        item: 0,
+        spec: i,
+        kind: 1,
+    };
+    row_size(specs, &specs[..0], numbers, source, destination)
 }
 
 // How many bytes the row of spec i takes as an object source; any other spec has none.
@@ -140,17 +152,12 @@ fn put_made(
     requires { ⌜ Lent (now specs) (now name) × (i ≤ specCount) × (field ≤ itemCount) × MadeWithin (length (now specs)) (length (now name)) source × MadeWithin (length (now specs)) (length (now name)) destination × (at + length (rowBytes (rowMeant (now specs) (now name) field i (kindOf field) source destination)) ≤ length (now out)) ⌝ }
     ensures { λ r. ⌜ Put (now (out .entry)) at (rowBytes (rowMeant (now (specs .entry)) (now (name .entry)) field i (kindOf field) source destination)) (now (out .exit)) r ⌝ }
 {
-    put_row(
-        out,
-        at,
-        specs,
-        name,
-        field,
-        i,
-        kind_of(field),
-        source,
-        destination,
-    )
+    let numbers = Numbers {
+        item: field,
+        spec: i,
+        kind: kind_of(field),
+    };
+    put_row(out, at, specs, name, numbers, source, destination)
 }
 
 // Writes the row of spec i with this item field, which there is, and answers the place after it.

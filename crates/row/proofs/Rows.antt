@@ -27,14 +27,14 @@ pub destination-none : (specs name : Text) (m : Made) → isAbsent m ≡ true �
 destination-none specs name Absent e = refl
 destination-none specs name Name e = absurd (let z : _≡_ {A = ℕ} 0 1 = cc in omega arith)
 destination-none specs name (Led l s) e = absurd (let z : _≡_ {A = ℕ} 0 1 = cc in omega arith)
-destination-none specs name (Filled a b c d f g) e = absurd (let z : _≡_ {A = ℕ} 0 1 = cc in omega arith)
+destination-none specs name (Filled f) e = absurd (let z : _≡_ {A = ℕ} 0 1 = cc in omega arith)
 
 -- one that is there
 pub destination-some : (specs name : Text) (m : Made) → isAbsent m ≡ false → destinationBytes (madeMeant specs name m) ≡ presentBytes (orEmpty (madeMeant specs name m))
 destination-some specs name Absent e = absurd (let z : _≡_ {A = ℕ} 0 1 = cc in omega arith)
 destination-some specs name Name e = refl
 destination-some specs name (Led l s) e = refl
-destination-some specs name (Filled a b c d f g) e = refl
+destination-some specs name (Filled f) e = refl
 
 -- the sums of a row's sizes are a machine's numbers, and small
 

@@ -17,7 +17,7 @@ abbrev pub isAbsent : Made → Bool
 isAbsent Absent = true
 isAbsent Name = false
 isAbsent (Led lead side) = false
-isAbsent (Filled start start-len from len end end-len) = false
+isAbsent (Filled f) = false
 
 -- the sizes of a spec list and of a name that were read
 pub record Lent (specs name : Text) : Type 0 where

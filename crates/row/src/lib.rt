@@ -13,6 +13,13 @@ use made::made_size;
 use made::put_made;
 use matcher::types::Made;
 
+// The numbers that a row begins with: its item number plus 1 or 0, its spec number and its source kind.
+pub struct Numbers {
+    pub item: usize,
+    pub spec: usize,
+    pub kind: usize,
+}
+
 // There is no text.
 fn is_absent(m: Made) -> bool
     ensures { λ r. ⌜ r ≡ isAbsent m ⌝ }
@@ -21,14 +28,7 @@ fn is_absent(m: Made) -> bool
         Made::Absent => true,
         Made::Name => false,
         Made::Led(_, _) => false,
-        Made::Filled {
-            start: _,
-            start_len: _,
-            from: _,
-            len: _,
-            end: _,
-            end_len: _,
-        } => false,
+        Made::Filled(_) => false,
     }
 }
 
@@ -53,31 +53,31 @@ fn destination_size(specs: &[u8], name: &[u8], destination: Made) -> usize
     number::size(n + 1) + n
 }
 
-// How many bytes a row has: item number plus 1 or 0, spec number, source kind, and the texts of both ends.
+// How many bytes a row has: its numbers, and the texts of both ends.
 pub fn row_size(
     specs: &[u8],
     name: &[u8],
-    item: usize,
-    spec: usize,
-    kind: usize,
+    numbers: Numbers,
     source: Made,
     destination: Made,
 ) -> usize
-    requires { ⌜ Lent (now specs) (now name) × RowWithin (length (now specs)) (length (now name)) item spec kind source destination ⌝ }
-    ensures { λ r. ⌜ (r ≡ length (rowBytes (rowMeant (now (specs .entry)) (now (name .entry)) item spec kind source destination))) × (r ≤ rowMost) ⌝ }
+    requires { ⌜ Lent (now specs) (now name) × RowWithin (length (now specs)) (length (now name)) (numbers .item) (numbers .spec) (numbers .kind) source destination ⌝ }
+    ensures { λ r. ⌜ (r ≡ length (rowBytes (rowMeant (now (specs .entry)) (now (name .entry)) (numbers .item) (numbers .spec) (numbers .kind) source destination))) × (r ≤ rowMost) ⌝ }
 {
-    let numbers = number::size(item) + number::size(spec) + number::size(kind);
-    numbers + source_size(specs, name, source) + destination_size(specs, name, destination)
+    let three = number::size(numbers.item)
+        + number::size(numbers.spec)
+        + number::size(numbers.kind);
+    three + source_size(specs, name, source) + destination_size(specs, name, destination)
 }
 
 // Writes the three numbers that a row begins with, and answers the place after them.
-fn put_numbers(out: &mut [u8], at: usize, item: usize, spec: usize, kind: usize) -> usize
-    requires { ⌜ (item ≤ itemCount) × (spec ≤ specCount) × (kind ≤ 1) × (at + length (rowNumbers item spec kind) ≤ length (now out)) ⌝ }
-    ensures { λ r. ⌜ (now (out .exit) ≡ splice (now (out .entry)) at (rowNumbers item spec kind)) × (r ≡ at + length (rowNumbers item spec kind)) ⌝ }
+fn put_numbers(out: &mut [u8], at: usize, numbers: Numbers) -> usize
+    requires { ⌜ (numbers .item ≤ itemCount) × (numbers .spec ≤ specCount) × (numbers .kind ≤ 1) × (at + length (rowNumbers (numbers .item) (numbers .spec) (numbers .kind)) ≤ length (now out)) ⌝ }
+    ensures { λ r. ⌜ (now (out .exit) ≡ splice (now (out .entry)) at (rowNumbers (numbers .item) (numbers .spec) (numbers .kind))) × (r ≡ at + length (rowNumbers (numbers .item) (numbers .spec) (numbers .kind))) ⌝ }
 {
-    let i = number::put(out, at, item);
-    let j = number::put(out, i, spec);
-    number::put(out, j, kind)
+    let i = number::put(out, at, numbers.item);
+    let j = number::put(out, i, numbers.spec);
+    number::put(out, j, numbers.kind)
 }
 
 // Writes a source, its length before it, and answers the place after it.
@@ -117,16 +117,14 @@ pub fn put_row(
     at: usize,
     specs: &[u8],
     name: &[u8],
-    item: usize,
-    spec: usize,
-    kind: usize,
+    numbers: Numbers,
     source: Made,
     destination: Made,
 ) -> usize
-    requires { ⌜ Lent (now specs) (now name) × RowWithin (length (now specs)) (length (now name)) item spec kind source destination × (at + length (rowBytes (rowMeant (now specs) (now name) item spec kind source destination)) ≤ length (now out)) ⌝ }
-    ensures { λ r. ⌜ (now (out .exit) ≡ splice (now (out .entry)) at (rowBytes (rowMeant (now (specs .entry)) (now (name .entry)) item spec kind source destination))) × (r ≡ at + length (rowBytes (rowMeant (now (specs .entry)) (now (name .entry)) item spec kind source destination))) ⌝ }
+    requires { ⌜ Lent (now specs) (now name) × RowWithin (length (now specs)) (length (now name)) (numbers .item) (numbers .spec) (numbers .kind) source destination × (at + length (rowBytes (rowMeant (now specs) (now name) (numbers .item) (numbers .spec) (numbers .kind) source destination)) ≤ length (now out)) ⌝ }
+    ensures { λ r. ⌜ (now (out .exit) ≡ splice (now (out .entry)) at (rowBytes (rowMeant (now (specs .entry)) (now (name .entry)) (numbers .item) (numbers .spec) (numbers .kind) source destination))) × (r ≡ at + length (rowBytes (rowMeant (now (specs .entry)) (now (name .entry)) (numbers .item) (numbers .spec) (numbers .kind) source destination))) ⌝ }
 {
-    let i = put_numbers(out, at, item, spec, kind);
+    let i = put_numbers(out, at, numbers);
     let j = put_source(out, i, specs, name, source);
     put_destination(out, j, specs, name, destination)
 }

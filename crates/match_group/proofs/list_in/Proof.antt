@@ -30,15 +30,13 @@ slice-aggregate-list-group c = search needs
 
 list-group-requires : tie.Need-list-group-requires
 list-group-requires c κs =
-    let start = c .before .before .before .before .before .before .before .before .before .before .before .before .before .before .before .before .before .before .before .before .before .before .before in
+    let start = c .before .before .before .before .before .before .before .before .before .before .before .before .before .before .before .before .before .before .before .before .before in
     let a = start .args in
     let group = start .pre .0 in
-    let noted = c .before .before .before .before .before .before .before .before .before .before .before .before .before .before .note-group .ensures in (
+    let noted = c .before .before .before .before .before .before .before .before .before .before .before .before .before .note-group .ensures in (
       specs-ready _ (a .records) (a .n) group _ _ _ noted (search needs),
       search items-placed,
       specs-askable _ (a .records) (a .n) group _ _ _ noted,
-      search needs,
-      search needs,
     )
 
 same-length-3 : tie.Need-same-length-3
@@ -50,16 +48,13 @@ same-length-4 c = search needs
 same-length-5 : tie.Need-same-length-5
 same-length-5 c = search needs
 
-same-length-6 : tie.Need-same-length-6
-same-length-6 c = search needs
-
 returns-2 : tie.Need-returns-2
 returns-2 c =
-    let start = c .before .before .before .before .before .before .before .before .before .before .before .before .before .before .before .before .before .before .before .before .before .before .before .before .before .before .before .before in
+    let start = c .before .before .before .before .before .before .before .before .before .before .before .before .before .before .before .before .before .before .before .before .before .before .before .before in
     let a = start .args in
-    let noted = c .before .before .before .before .before .before .before .before .before .before .before .before .before .before .before .before .before .before .before .note-group .ensures in
-    let read = c .before .before .before .before .before .before .before .before .before .before .before .before .before .read-places .ensures in
-    let listed = c .before .before .before .before .list-group .ensures in
+    let noted = c .before .before .before .before .before .before .before .before .before .before .before .before .before .before .before .before .note-group .ensures in
+    let read = c .before .before .before .before .before .before .before .before .before .before .read-places .ensures in
+    let listed = c .before .before .list-group .ensures in
     rows-listed _ (a .records) (a .n) (start .pre .0) _ _ _ noted (a .back) _ _ _ _ _ read (search needs) _ _ _ _ listed
 
 pub list-in-spec : {M : Type 1} → statement M
@@ -78,5 +73,4 @@ list-in-spec =
     same-length-3
     same-length-4
     same-length-5
-    same-length-6
     returns-2)

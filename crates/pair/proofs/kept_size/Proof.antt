@@ -10,8 +10,8 @@ removed-requires c κs = search needs
 returns : tie.Need-returns
 returns c = (search gone-size, search needs)
 
-add-row-size : tie.Need-add-row-size
-add-row-size c = search needs
+add-item : tie.Need-add-item
+add-item c = search needs
 
 row-size-requires : tie.Need-row-size-requires
 row-size-requires c κs = (search needs, search needs)
@@ -20,4 +20,4 @@ returns-2 : tie.Need-returns-2
 returns-2 c = (search kept-size, search needs)
 
 pub kept-size-spec : {M : Type 1} → statement M
-kept-size-spec = tie.close (tie.spec removed-requires returns add-row-size row-size-requires returns-2)
+kept-size-spec = tie.close (tie.spec removed-requires returns add-item row-size-requires returns-2)

@@ -13,14 +13,14 @@ size-requires c κs = search needs
 size-requires-2 : tie.Need-size-requires-2
 size-requires-2 c κs = search needs
 
-add-numbers : tie.Need-add-numbers
-add-numbers c = search two-fit
+add-three : tie.Need-add-three
+add-three c = search two-fit
 
 size-requires-3 : tie.Need-size-requires-3
 size-requires-3 c κs = search needs
 
-add-numbers-2 : tie.Need-add-numbers-2
-add-numbers-2 c = search three-fit
+add-three-2 : tie.Need-add-three-2
+add-three-2 c = search three-fit
 
 source-size-requires : tie.Need-source-size-requires
 source-size-requires c κs = search needs
@@ -43,9 +43,9 @@ row-size-spec =
     (tie.spec
     size-requires
     size-requires-2
-    add-numbers
+    add-three
     size-requires-3
-    add-numbers-2
+    add-three-2
     source-size-requires
     add-result
     destination-size-requires

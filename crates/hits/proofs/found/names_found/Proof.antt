@@ -9,10 +9,10 @@ use Rattle.hits.proofs.found.names_found.Statement.{statement}
 use Rattle.hits.proofs.found.names_found.Tie as tie
 
 abbrev Inv-loop : tie.InvT-loop
-Inv-loop back specs m f i items places n negatives count hits₀ noted size₀ known₀ j₀ hits size known j = NamesFound back (excludedBy specs negatives count) (specOf specs m) items places n i hits₀ noted hits size known j
+Inv-loop specs m f items places negatives hits₀ scope i n size₀ known₀ j₀ hits size known j = NamesFound (scope .back) (excludedBy specs negatives (scope .negatives)) (specOf specs m) items places n i hits₀ known₀ hits size known j
 
 abbrev μ-loop : tie.MeasureT-loop
-μ-loop back specs m f i items places n negatives count hits₀ noted size₀ known₀ j₀ hits size known j = n - j
+μ-loop specs m f items places negatives hits₀ scope i n size₀ known₀ j₀ hits size known j = n - j
 
 next-passing-requires : tie.Need-next-passing-requires Inv-loop μ-loop
 next-passing-requires c κs = (search needs, search needs, search places-room, search places-within)

@@ -11,7 +11,7 @@ use Rattle.hits.proofs.found.objects_found.Statement.{statement}
 use Rattle.hits.proofs.found.objects_found.Tie as tie
 
 abbrev Inv-loop : tie.InvT-loop
-Inv-loop specs table group hits₀ size₀ noted₀ i₀ hits size noted i = RowFound (λ i. objectBytes i (specAt specs table i)) (λ i. hitIf (length (objectBytes i (specAt specs table i))) (hitOf i 0)) group rowMost hits₀ hits size noted i
+Inv-loop specs table group hits₀ size₀ noted₀ i₀ hits size noted i = RowFound (λ i. objectBytes i (specAt specs table i)) (λ i. hitIf (length (objectBytes i (specAt specs table i))) (hitOf i 0)) group rowMost hits₀ 0 hits size noted i
 
 abbrev μ-loop : tie.MeasureT-loop
 μ-loop specs table group hits₀ size₀ noted₀ i₀ hits size noted i = group - i

@@ -10,10 +10,10 @@ use Rattle.hits.proofs.found.specs_found.Statement.{statement}
 use Rattle.hits.proofs.found.specs_found.Tie as tie
 
 abbrev Inv-loop : tie.InvT-loop
-Inv-loop back specs table group items places n negatives count hits₀ size₀ noted₀ i₀ hits size noted i = RowFound (specGives back (excludedBy specs negatives count) specs table items places n) (specHits back (excludedBy specs negatives count) specs table items places n) group specMost hits₀ hits size noted i
+Inv-loop scope specs table items places negatives hits₀ noted group size₀ known₀ i₀ hits size known i = RowFound (specGives (scope .back) (excludedBy specs negatives (scope .negatives)) specs table items places (scope .names)) (specHits (scope .back) (excludedBy specs negatives (scope .negatives)) specs table items places (scope .names)) group specMost hits₀ noted hits size known i
 
 abbrev μ-loop : tie.MeasureT-loop
-μ-loop back specs table group items places n negatives count hits₀ size₀ noted₀ i₀ hits size noted i = group - i
+μ-loop scope specs table items places negatives hits₀ noted group size₀ known₀ i₀ hits size known i = group - i
 
 loop-holds : tie.Need-loop-holds Inv-loop μ-loop
 loop-holds c = search row-begin

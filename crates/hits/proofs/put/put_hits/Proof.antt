@@ -3,6 +3,7 @@ use mathlib.Core.Path.{_≡_}
 use mathlib.Core.Logic.{⊎-elim}
 use Prim.Native.Nat.{_-_, _/_, _≤_}
 use native.Mathlib.Omega.{arith}
+use lib.ListN.{length}
 use denote.Ref.{now}
 use Rattle.matchers.specs.Numbers.{matcherAt}
 use Rattle.hits.specs.Hits.{hitStride, hitBytes}
@@ -12,10 +13,10 @@ use Rattle.hits.proofs.put.put_hits.Statement.{statement}
 use Rattle.hits.proofs.put.put_hits.Tie as tie
 
 abbrev Inv-loop : tie.InvT-loop
-Inv-loop out₀ at back specs table group items places n hits noted end₀ last₀ m₀ k₀ out end last m k = HitsWritten (hitBytes back specs table items places) hits noted out₀ at k out end × (k ≤ noted) × (m ≡ matcherAt table last)
+Inv-loop out₀ at scope specs table items places hits end₀ last₀ m₀ k₀ out end last m k = HitsWritten (hitBytes (scope .back) specs table items places) hits out₀ at k out end × (k ≤ length hits) × (m ≡ matcherAt table last)
 
 abbrev μ-loop : tie.MeasureT-loop
-μ-loop out₀ at back specs table group items places n hits noted end₀ last₀ m₀ k₀ out end last m k = noted - k
+μ-loop out₀ at scope specs table items places hits end₀ last₀ m₀ k₀ out end last m k = length hits - k
 
 returns : tie.Need-returns Inv-loop μ-loop
 returns c = search hits-none
@@ -54,10 +55,13 @@ put-hit-requires c κs =
     let e = b .wider .ensures in
     let w = l .loop .inv .0 in
     let em : c .before .if2 .m ≡ matcherAt (now (s .args .table)) (b .wider .result / hitStride) = ⊎-elim (λ w. cc) (λ w. cc) (c .before .if2 .came) in
-    (search turn-ready, search needs, search turn-spec, search turn-item, search turn-gives, turn-room _ _ _ _ t _ _ _ _ _ q _ h _ e _ em _ _ _ _ w)
+    (search turn-ready, search needs, search turn-spec, search turn-item, search turn-gives, turn-room _ _ _ _ t _ _ _ _ q _ h _ e _ em _ _ _ _ w)
 
 add-k : tie.Need-add-k Inv-loop μ-loop
-add-k c = search needs
+add-k c =
+    let s = c .before .before .before .before .before .before .before .before .before .before .before .before .before .before .before .before .before in
+    let g = s .good .1 .1 .1 .1 .1 .1 .1 .0 in
+    omega arith
 
 loop-less : tie.Need-loop-less Inv-loop μ-loop
 loop-less c = omega arith
@@ -75,7 +79,7 @@ loop-again c =
     let w = l .loop .inv .0 in
     let em : j .if2 .m ≡ matcherAt (now (s .args .table)) (b .wider .result / hitStride) = ⊎-elim (λ w. cc) (λ w. cc) (j .if2 .came) in
     let f : j .if2 .m ≡ matcherAt (now (s .args .table)) (j .if2 .last) = ⊎-elim (λ w. cc) (λ w. cc) (j .if2 .came) in
-    (turn-next _ _ _ _ t _ _ _ _ _ q _ h _ e _ em _ _ _ _ w _ _ (c .before .before .put-hit .ensures), omega arith, f)
+    (turn-next _ _ _ _ t _ _ _ _ q _ h _ e _ em _ _ _ _ w _ _ (c .before .before .put-hit .ensures), omega arith, f)
 
 same-length : tie.Need-same-length Inv-loop μ-loop
 same-length c = search needs
