@@ -12,9 +12,10 @@ use Rattle.meaning.specs.Lists.{readSpecs, readItems}
 use Rattle.meaning.specs.Rows.{rowListOf}
 use Rattle.meaning.specs.Buffers.{MeetsOne}
 use Rattle.meaning.specs.Entries.{matchLhs, matchRhs}
-use Rattle.promises.proofs.Buffers.{meets-refused, meets-short, meets-written}
+use Rattle.buffer.specs.declared.written.Written.{Written}
+use Rattle.buffer.specs.Answers.{refusedWith, shortWith, doneWith}
 use Rattle.buffer.specs.Splice.{splice}
-use Rattle.buffer.proofs.Splices.{splice-start}
+use Rattle.buffer.proofs.Meets.{made-refused, made-short, made-written}
 use Rattle.list.specs.declared.items.Checked.{Checked}
 use Rattle.list.specs.Places.{namesOf, PlacesRead}
 use Rattle.spec_list.specs.declared.Group.{Group}
@@ -42,14 +43,14 @@ module _ (back : Bool) (gone : Text → Bool) (specs : Text) (table : List ℕ) 
   size : a + b ≡ length whole
   size = omega (arith, length-append (firstBytes back specs table group) (groupGives back gone specs table group items places n))
 
-  pub list-short : length d < a + b → MeetsOne (accepted (some (tableBytes back gone specs table group items places n) ∷ [])) d d 17 0 (a + b)
-  list-short h = meets-short (accepted (some whole ∷ [])) d d whole 17 0 (a + b) refl (omega (arith, size)) refl refl refl size
+  pub list-short : length d < a + b → (w : Written) → w ≡ shortWith (a + b) → MeetsOne (accepted (some (tableBytes back gone specs table group items places n) ∷ [])) d d (w .refusal) (w .«record») (w .length)
+  list-short h w e = made-short whole (a + b) size d whole refl w h e
 
   pub list-fits : a + b ≤ length d → length (tableBytes back gone specs table group items places n) ≤ length d
   list-fits h = omega (arith, size)
 
-  pub list-written : a + b ≤ length d → (o : Text) → o ≡ splice d 0 (tableBytes back gone specs table group items places n) → MeetsOne (accepted (some (tableBytes back gone specs table group items places n) ∷ [])) d o 0 0 (a + b)
-  list-written h o e = meets-written (accepted (some whole ∷ [])) d o whole 0 0 (a + b) refl (omega (arith, size)) (e ∙ splice-start d whole) refl refl size
+  pub list-written : a + b ≤ length d → (o : Text) → o ≡ splice d 0 (tableBytes back gone specs table group items places n) → (w : Written) → w ≡ doneWith (a + b) → MeetsOne (accepted (some (tableBytes back gone specs table group items places n) ∷ [])) d o (w .refusal) (w .«record») (w .length)
+  list-written h o x w e = made-written whole (a + b) size d whole refl w o h x e
 
 -- a spec list that was refused
 specs-turned : (back : Bool) (op : ℕ) (specs items : Text) (n : ℕ) (r : Option ℕ) → readSpecs op specs ≡ refused n r → listed back op specs items ≡ refused n r
@@ -64,10 +65,10 @@ specs-read true op specs items group e = rw e
 specs-read false op specs items group e = rw e
 
 module _ (back : Bool) (op : ℕ) (specs items d : Text) (g : Group) (eg : GroupRead specs g (readSpecs op specs)) where
-  pub specs-refused : (g .refusal ≡ 0 → ⊥) → (w t u : ℕ) → w ≡ g .refusal → t ≡ g .«record» → u ≡ 0 → MeetsOne (listed back op specs items) d d w t u
-  specs-refused z w t u ew et eu =
+  pub specs-refused : (g .refusal ≡ 0 → ⊥) → (w : Written) → w ≡ refusedWith (g .refusal) (g .«record») → MeetsOne (listed back op specs items) d d (w .refusal) (w .«record») (w .length)
+  specs-refused z w e =
       let f = group-failed specs g (readSpecs op specs) eg z in
-      meets-refused (listed back op specs items) d d (g .refusal) (f .carried) w t u (specs-turned back op specs items (g .refusal) (f .carried) (f .answer)) refl ew (et ∙ f .number) eu
+      made-refused (listed back op specs items) d (g .refusal) (f .carried) (g .«record») w (specs-turned back op specs items (g .refusal) (f .carried) (f .answer)) (f .number) e
 
   module _ (z : g .refusal ≡ 0) where
     passed : GroupPassed specs g (readSpecs op specs)
@@ -95,10 +96,10 @@ module _ (specs : Text) (records : List SpecRecord) (n : ℕ) (r : Grouped specs
 
   module _ (back : Bool) (items d : Text) where
     module _ (before places : List ℕ) (c : Checked) (ec : PlacesRead items before places c) where
-      pub items-turned : (c .refusal ≡ 0 → ⊥) → (w t u : ℕ) → w ≡ c .refusal → t ≡ c .«record» → u ≡ 0 → MeetsOne (listing back (groupMeant specs (take n records)) items) d d w t u
-      items-turned z w t u ew et eu =
+      pub items-turned : (c .refusal ≡ 0 → ⊥) → (w : Written) → w ≡ refusedWith (c .refusal) (c .«record») → MeetsOne (listing back (groupMeant specs (take n records)) items) d d (w .refusal) (w .«record») (w .length)
+      items-turned z w e =
           let f = items-failed items c (ec .answer) z in
-          meets-refused (listing back group items) d d (c .refusal) (f .carried) w t u (rw (f .answer)) refl ew (et ∙ f .number) eu
+          made-refused (listing back group items) d (c .refusal) (f .carried) (c .«record») w (rw (f .answer)) (f .number) e
 
       module _ (zc : c .refusal ≡ 0) where
         pub items-placed : PlacesIn items places (c .count)

@@ -13,6 +13,8 @@ ghost use Rattle.hits.specs.Hits.{specGives};
 ghost use Rattle.hits.specs.Noting.{objectsMost, hitRoom, PlacesIn, TableReady, Adds};
 ghost use Rattle.match_group.specs.Listing.{firstBytes, firstHits, tableBytes, tableHits, Noted};
 use buffer::written::Written;
+use buffer::written::done;
+use buffer::written::short;
 use hits::found::Found;
 use hits::found::HIT_ROOM;
 use hits::found::objects_found;
@@ -162,11 +164,7 @@ fn list_rows(
     );
     let size = objects.size + found.size;
     if out.len() < size {
-        return Written {
-            refusal: 17,
-            record: 0,
-            length: size as u64,
-        };
+        return short(size);
     }
     let notes = Notes {
         scope,
@@ -174,11 +172,7 @@ fn list_rows(
         all: found.hits,
     };
     put_listing(out, specs, table, items, places, negatives, hits, notes);
-    Written {
-        refusal: 0,
-        record: 0,
-        length: size as u64,
-    }
+    done(size)
 }
 
 // The listing of a group in its tables, with room for hits.

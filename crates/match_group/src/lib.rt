@@ -13,6 +13,7 @@ ghost use Rattle.match_group.specs.Listing.{fewSpecs, listing, listed};
 mod group;
 
 use buffer::written::Written;
+use buffer::written::refused;
 use exclude::NEGATIVE_NUMBERS;
 use group::list_group;
 use hits::scope::Scope;
@@ -38,17 +39,6 @@ const FEW_NEGATIVES: usize = NEGATIVE_NUMBERS * FEW;
 
 // The places of names have so many.
 const PLACES: usize = 2 * ITEM_COUNT;
-
-// A call that is refused writes nothing.
-fn refused(refusal: u64, record: u64) -> Written
-    ensures { λ w. ⌜ (w .refusal ≡ refusal) × (w .record ≡ «record») × (w .length ≡ 0) ⌝ }
-{
-    Written {
-        refusal,
-        record,
-        length: 0,
-    }
-}
 
 // The listing of a group, the first n records of a table, which is noted in tables that have room for it.
 fn list_in(

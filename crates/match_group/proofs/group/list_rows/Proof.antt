@@ -17,6 +17,9 @@ specs-found-requires c κs = search needs
 add-size : tie.Need-add-size
 add-size c = search needs
 
+short-requires : tie.Need-short-requires
+short-requires c κs = search needs
+
 same-length : tie.Need-same-length
 same-length c = search needs
 
@@ -43,6 +46,9 @@ put-listing-requires c κs =
       list-fits (x .scope .back) (excludedBy (now (x .specs)) (now (x .negatives)) (x .scope .negatives)) (now (x .specs)) (now (x .table)) (x .scope .specs) (now (x .items)) (now (x .places)) (x .scope .names) _ _ (first .0) (rows .0) (now (x .out)) (omega (arith, c .before .before .if1 .left)),
     )
 
+done-requires : tie.Need-done-requires
+done-requires c κs = search needs
+
 same-length-2 : tie.Need-same-length-2
 same-length-2 c = search needs
 
@@ -59,9 +65,11 @@ list-rows-spec =
     first-found-requires
     specs-found-requires
     add-size
+    short-requires
     same-length
     returns
     put-listing-requires
+    done-requires
     same-length-2
     same-length-3
     returns-2)
