@@ -13,7 +13,6 @@ use Rattle.meaning.specs.Spec.{Spec}
 use Rattle.parse.specs.Places.{partAt}
 use Rattle.parse.proofs.Parts.{part-length}
 use Rattle.matcher.specs.declared.types.Matcher.{Matcher}
-use Rattle.matcher.specs.Matching.{MatcherWithin}
 use Rattle.matchers.specs.Numbers.{matcherNumbers, matcherAt}
 use Rattle.filter.specs.declared.Filter.{Filter}
 use Rattle.filter.specs.Filters.{passes, nameAt, StopsForward, StopsReverse}
@@ -76,9 +75,6 @@ module _ (back : Bool) (specs : Text) (m : Matcher) (f : Filter) (r : Ready spec
 
   pub stops-on : back ≡ false → StopsForward specs m f → Stops back specs m f
   stops-on e h = rw e (record { stops = λ name l p. h .stops name l p (specOf specs m) (r .matches); within = h .within })
-
-pub ready-within : (specs : Text) (m : Matcher) → Ready specs m → MatcherWithin (length specs) m
-ready-within specs m r = r .matches .within
 
 -- ---- the names under one spec
 
@@ -211,9 +207,6 @@ module _ (text : ℕ → Text) (codes : ℕ → List ℕ) (group b : ℕ) where
 
     pub row-noted : group ≤ i → Adds first start (across codes 0 group) hits noted
     row-noted h = noting-done first start (across codes 0 group) hits noted (across codes i (group - i)) (c .noting) (across-none codes i group h)
-
-    pub row-long : length hits ≡ length first
-    row-long = c .long
 
 -- how much all of them take
 module _ (text : ℕ → Text) (codes : ℕ → List ℕ) (group : ℕ) (few : group ≤ specCount) (first : List ℕ) (start : ℕ) (hits : List ℕ) (size noted i : ℕ) where

@@ -18,7 +18,7 @@ use Rattle.hits.specs.Hits.{across, specAt, pairGives, specGives, groupG
 use Rattle.hits.specs.Noting.{Good, AllGood}
 use Rattle.hits.proofs.Across.{across-few}
 
-each-append : (f : ℕ → Text) (l m : List ℕ) → each (l ++ m) f ≡ each l f ++ each m f
+pub each-append : {A B : Type 0} (f : A → List B) (l m : List A) → each (l ++ m) f ≡ each l f ++ each m f
 each-append f [] m = refl
 each-append f (x ∷ l) m = rw (each-append f l m) (sym (append-assoc (f x) (each l f) (each m f)))
 

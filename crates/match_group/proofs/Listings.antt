@@ -1,7 +1,7 @@
 -- The bytes of a listing are those that the loops write, spec by spec and item by item. Assumes nothing.
-use mathlib.Core.Path.{_≡_, refl, sym, ap, _∙_}
+use mathlib.Core.Path.{_≡_, refl, ap, _∙_}
 use mathlib.Core.Bool.{Bool, true, false, not, cond}
-use mathlib.Core.List.{List, [], _∷_, _++_, append-assoc}
+use mathlib.Core.List.{List, [], _∷_, _++_}
 use mathlib.Core.Option.{Option, none, some, Option·map}
 use Prim.Native.Nat.{ℕ, suc, _+_}
 use Rattle.meaning.specs.Bytes.{Text, any, keep, each, numberedFrom, numbered}
@@ -9,21 +9,17 @@ use Rattle.meaning.specs.Spec.{Spec, isNegative}
 use Rattle.meaning.specs.Rows.{Row, rowBytes, rowListOf}
 use Rattle.meaning.specs.Match.{formOf, objectSource, whole, Mapped, unmapped, mapped, mapsTo}
 use Rattle.meaning.specs.Listing.{Ends, nameRow, nameRows, groupRows, objectRow, objectRows, excludes, notExcluded, forwardRows, reverseRows}
+use Rattle.hits.proofs.Given.{each-append}
 use Rattle.pair.specs.Pairs.{endsIn, rowUnless, itemBytes, objectBytes}
 use Rattle.match_group.specs.Listing.{eachFrom, rowsIn, itemsFrom, bytesOfSpec, listingBytes}
 
-module _ {A : Type 0} where
-  keep-append : (test : A → Bool) (l m : List A) → keep test (l ++ m) ≡ keep test l ++ keep test m
-  keep-append test [] m = refl
-  keep-append test (x ∷ l) m = rw (keep-append test l m) (go (test x))
-    where
-      go : (b : Bool) → cond b (x ∷ (keep test l ++ keep test m)) (keep test l ++ keep test m) ≡ cond b (x ∷ keep test l) (keep test l) ++ keep test m
-      go true = refl
-      go false = refl
-
-  each-append : {B : Type 0} (f : A → List B) (l m : List A) → each (l ++ m) f ≡ each l f ++ each m f
-  each-append f [] m = refl
-  each-append f (x ∷ l) m = rw (each-append f l m) (sym (append-assoc (f x) (each l f) (each m f)))
+keep-append : {A : Type 0} (test : A → Bool) (l m : List A) → keep test (l ++ m) ≡ keep test l ++ keep test m
+keep-append test [] m = refl
+keep-append test (x ∷ l) m = rw (keep-append test l m) (go (test x))
+  where
+    go : (b : Bool) → cond b (x ∷ (keep test l ++ keep test m)) (keep test l ++ keep test m) ≡ cond b (x ∷ keep test l) (keep test l) ++ keep test m
+    go true = refl
+    go false = refl
 
 -- the bytes of the rows of a list that pass a test
 abbrev kept : (Row → Bool) → List Row → Text

@@ -76,10 +76,6 @@ target-rest zero n l a b e = absurd (a refl)
 target-rest (suc zero) n l a b e = absurd (b refl)
 target-rest (suc (suc kind)) n l a b e = rw e
 
--- ---- a `match` on a target
-pub number-literal : (t : Target) (l : Lead) (r : ℕ) → t ≡ target.Literal l → r ≡ leadKind l → r ≡ targetNumber t
-number-literal t l r is e = rw is e
-
 -- ---- small numbers
 pub needle-star-small : (l : Needle) (star : ℕ) → l ≡ needle.Glob star → NeedleStar specListBytes l → star ≤ specListBytes
 needle-star-small l star is w = let h : star < specListBytes = rw is at w in omega arith
