@@ -1,0 +1,13 @@
+-- `replaying::differing` meets its contract: one more was read, and one more differs.
+use borrow.Author.Needs.{needs}
+use Rattle.replaying.proofs.differing.Statement.{statement}
+use Rattle.replaying.proofs.differing.Tie as tie
+
+name-requires : tie.Need-name-requires
+name-requires c κs = search needs
+
+returns : tie.Need-returns
+returns c = search needs
+
+pub differing-spec : {M : Type 1} → statement M
+differing-spec = tie.close (tie.spec name-requires returns)
