@@ -19,7 +19,7 @@ use Rattle.keys.specs.Keys.{keyAt, sameAt, notAfter}
 use Rattle.order.specs.Keys.{sortPlaces}
 use Rattle.order.proofs.Heads.{heads-sort, place-sort}
 use Rattle.conflict.specs.declared.sources.HeadsSize.{HeadsSize}
-use Rattle.conflict.specs.Sizes.{sourceMost}
+use Rattle.conflict.specs.Sizes.{conflictSourceMost}
 use Rattle.conflict.specs.Shared.{OneRun, runBytes, sourceAt, sourcesAt, firstsAt, Heads}
 
 -- the head of a run stands before the heads that follow the run
@@ -53,13 +53,13 @@ pub record Counting (s : Text) (l : List ℕ) (i count size : ℕ) : Type 0 wher
   pub few : count ≤ i
   pub counted : count + length (heads (one s) (drop i l)) ≡ length (heads (one s) l)
   pub measured : size + length (sourcesAt s (heads (one s) (drop i l))) ≡ length (sourcesAt s (heads (one s) l))
-  pub small : size ≤ count * sourceMost
+  pub small : size ≤ count * conflictSourceMost
 
 pub counting-starts : (s : Text) (l : List ℕ) → Counting s l 0 0 0
 counting-starts s l = record { within = omega arith; few = omega arith; counted = omega arith; measured = omega arith; small = omega arith }
 
 module _ (s : Text) (l : List ℕ) (i count size : ℕ) (m : Counting s l i count size) where
-  module _ (h : i < length l) (end : ℕ) (run : end ≡ i + runOf (one s (getD l i 0)) (drop i l)) (begun : i < end) (room : end ≤ length l) (p n : ℕ) (ep : p ≡ getD l i 0) (en : n ≡ length (sourceAt s p)) (few : n ≤ sourceMost) where
+  module _ (h : i < length l) (end : ℕ) (run : end ≡ i + runOf (one s (getD l i 0)) (drop i l)) (begun : i < end) (room : end ≤ length l) (p n : ℕ) (ep : p ≡ getD l i 0) (en : n ≡ length (sourceAt s p)) (few : n ≤ conflictSourceMost) where
     pub counting-fits : length l ≤ rowListBytes → Fits w64 (size + n)
     counting-fits k = omega (arith, m .small, m .few)
 

@@ -11,7 +11,7 @@ use Rattle.meaning.specs.Limits.{rowListBytes}
 use Rattle.buffer.specs.Splice.{splice}
 use Rattle.text.proofs.Rests.{rest-cons, rest-end}
 use Rattle.buffer.proofs.Writing.{Writing, writing-starts, writing-room, writing-more, written-place, written-whole}
-use Rattle.conflict.specs.Sizes.{sourceMost}
+use Rattle.conflict.specs.Sizes.{conflictSourceMost}
 use Rattle.conflict.specs.Shared.{sourceAt, sourcesAt}
 
 module _ (s : Text) (l : List ℕ) (i : ℕ) where
@@ -27,13 +27,13 @@ module _ (s : Text) (l : List ℕ) (i : ℕ) where
 pub record Measuring (s : Text) (l : List ℕ) (i size : ℕ) : Type 0 where
   pub within : i ≤ length l
   pub measured : size + length (sourcesAt s (drop i l)) ≡ length (sourcesAt s l)
-  pub small : size ≤ i * sourceMost
+  pub small : size ≤ i * conflictSourceMost
 
 pub measuring-starts : (s : Text) (l : List ℕ) → Measuring s l 0 0
 measuring-starts s l = record { within = omega arith; measured = omega arith; small = omega arith }
 
 module _ (s : Text) (l : List ℕ) (i size : ℕ) (m : Measuring s l i size) where
-  module _ (p n : ℕ) (h : i < length l) (ep : p ≡ getD l i 0) (en : n ≡ length (sourceAt s p)) (few : n ≤ sourceMost) where
+  module _ (p n : ℕ) (h : i < length l) (ep : p ≡ getD l i 0) (en : n ≡ length (sourceAt s p)) (few : n ≤ conflictSourceMost) where
     pub measuring-fits : length l ≤ rowListBytes → Fits w64 (size + n)
     measuring-fits k = omega (arith, m .small)
 
@@ -49,7 +49,7 @@ module _ (s : Text) (l : List ℕ) (i size : ℕ) (m : Measuring s l i size) whe
   pub measuring-done : length l ≤ i → size ≡ length (sourcesAt s l)
   measuring-done h = omega (arith, m .measured, ap length (source-none s l i h))
 
-  pub measuring-small : size ≤ length l * sourceMost
+  pub measuring-small : size ≤ length l * conflictSourceMost
   measuring-small = omega (arith, m .small, m .within)
 
 -- the first i sources are written

@@ -18,7 +18,7 @@ use Rattle.parse.specs.Places.{partAt}
 use Rattle.row_fields.specs.declared.RowPlace.{RowPlace}
 use Rattle.row_fields.specs.Fields.{rowMeant}
 use Rattle.keys.specs.Keys.{rowAt, Finds}
-use Rattle.conflict.specs.Sizes.{sourceMost}
+use Rattle.conflict.specs.Sizes.{conflictSourceMost}
 use Rattle.conflict.specs.Shared.{sourceAt}
 use Rattle.conflict.proofs.Parts.{part-is, part-long}
 
@@ -66,7 +66,7 @@ module _ (s : Text) (p : ℕ) (f : RowPlace) (w : Finds s (rowAt s p) f) where
     pub source-fits : Fits w64 (x + y + z + f .«src_len»)
     source-fits = omega (arith, few x (f .spec) ex, few y (f .kind) ey, few z (f .«src_len») ez, w .source-within)
 
-    pub source-small : x + y + z + f .«src_len» ≤ sourceMost
+    pub source-small : x + y + z + f .«src_len» ≤ conflictSourceMost
     source-small = omega (arith, few x (f .spec) ex, few y (f .kind) ey, few z (f .«src_len») ez, w .source-within)
 
     pub source-size : x + y + z + f .«src_len» ≡ length (sourceAt s p)

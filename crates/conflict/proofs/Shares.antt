@@ -28,7 +28,7 @@ use Rattle.keys.specs.declared.key.Key.the-variants.{Source}
 use Rattle.order.specs.Sorting.{firstsBy}
 use Rattle.keys.specs.Keys.{rowAt, sameAt}
 use Rattle.keys.proofs.Rows.{destination-there}
-use Rattle.conflict.specs.Sizes.{destinationMost, sourceMost, rowMost}
+use Rattle.conflict.specs.Sizes.{conflictDestinationMost, conflictSourceMost, conflictRowMost}
 use Rattle.conflict.specs.Shared.{conflictPart}
 use Rattle.conflict.specs.FirstSeen.{sourcesOn, sourcesBytes, listedBytes}
 use Rattle.conflict.specs.Shared.{rowsAt, destinationAt, OneRun, runBytes, headAt, listedAt, sourcesAt, firstsAt}
@@ -163,7 +163,7 @@ module _ (s : Text) (l : List ℕ) (run : OneRun s l) where
       pub two-size : (k : ℕ) → k ≡ length (listedAt s (take n e)) → k ≡ length (runBytes s l)
       two-size k h = rw (whole two) h
 
-      pub two-small : (k : ℕ) → k ≤ length (take n e) * rowMost → k ≤ length l * rowMost
+      pub two-small : (k : ℕ) → k ≤ length (take n e) * conflictRowMost → k ≤ length l * conflictRowMost
       two-small k h = omega (arith, firsts-count)
 
       module _ (o : Text) (to : ℕ) where
@@ -199,7 +199,7 @@ module _ (s : Text) (p : ℕ) (f : Stretch) (w : Spells s (destinationIn (readFr
     pub destination-fits : Fits w64 (x + f .len)
     destination-fits = omega (arith, bytes-few (f .len), w .within)
 
-    pub destination-small : x + f .len ≤ destinationMost
+    pub destination-small : x + f .len ≤ conflictDestinationMost
     destination-small = omega (arith, bytes-few (f .len), w .within)
 
     pub destination-size : x + f .len ≡ length (textBytes (destinationAt s p))
@@ -216,15 +216,15 @@ module _ (s : Text) (p : ℕ) (f : Stretch) (w : Spells s (destinationIn (readFr
     destination-after k h = rw destination-is h
 
 -- the sizes of a destination, of a number and of the sources of at most k rows
-module _ (x y n : ℕ) (small-x : x ≤ destinationMost) (ey : y ≡ length (numberBytes n)) where
+module _ (x y n : ℕ) (small-x : x ≤ conflictDestinationMost) (ey : y ≡ length (numberBytes n)) where
   pub size-two : Fits w64 (x + y)
   size-two = omega (arith, bytes-few n)
 
-  module _ (z k : ℕ) (small : z ≤ k * sourceMost) where
+  module _ (z k : ℕ) (small : z ≤ k * conflictSourceMost) where
     pub size-three : k ≤ rowListBytes → Fits w64 (x + y + z)
     size-three h = omega (arith, bytes-few n)
 
-    pub size-small : 0 < k → x + y + z ≤ k * rowMost
+    pub size-small : 0 < k → x + y + z ≤ k * conflictRowMost
     size-small h = omega (arith, bytes-few n)
 
 -- a destination with its rows

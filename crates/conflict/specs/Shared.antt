@@ -12,7 +12,7 @@ use Rattle.keys.specs.declared.key.Key.the-variants.{Source}
 use Rattle.order.specs.Sorting.{Ascending, heads, firstsBy}
 use Rattle.keys.specs.Keys.{rowAt, sameAt}
 use Rattle.conflict.specs.declared.sources.HeadsSize.{HeadsSize}
-use Rattle.conflict.specs.Sizes.{sourceMost}
+use Rattle.conflict.specs.Sizes.{conflictSourceMost}
 use Rattle.conflict.specs.FirstSeen.{rowSourceBytes, sourcesBytes, listedBytes}
 
 -- the rows that begin at places
@@ -60,4 +60,4 @@ pub record Heads (s : Text) (l : List ℕ) (h : HeadsSize) : Type 0 where
   pub count-is : h .count ≡ length (heads (sameAt Source s) l)
   pub count-small : h .count ≤ length l
   pub size-is : h .size ≡ length (sourcesAt s (heads (sameAt Source s) l))
-  pub size-small : h .size ≤ length l * sourceMost
+  pub size-small : h .size ≤ length l * conflictSourceMost

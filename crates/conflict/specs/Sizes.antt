@@ -3,13 +3,13 @@ use Prim.Native.Nat.{ℕ, _+_, _*_}
 use Rattle.meaning.specs.Limits.{rowListBytes, numberGroups}
 
 -- a destination with its length
-abbrev pub destinationMost : ℕ
-destinationMost = rowListBytes + numberGroups
+abbrev pub conflictDestinationMost : ℕ
+conflictDestinationMost = rowListBytes + numberGroups
 
 -- a source: two numbers, and its text with the length
-abbrev pub sourceMost : ℕ
-sourceMost = rowListBytes + 3 * numberGroups
+abbrev pub conflictSourceMost : ℕ
+conflictSourceMost = rowListBytes + 3 * numberGroups
 
 -- what one row adds to its conflict: a source, and for the first of them also the destination and how many sources there are
-abbrev pub rowMost : ℕ
-rowMost = destinationMost + numberGroups + sourceMost
+abbrev pub conflictRowMost : ℕ
+conflictRowMost = conflictDestinationMost + numberGroups + conflictSourceMost

@@ -5,7 +5,7 @@ ghost use lib.ListN.{length};
 ghost use Rattle.buffer.specs.Splice.{splice};
 ghost use Rattle.meaning.specs.Limits.{rowListBytes};
 ghost use Rattle.meaning.specs.Number.{textBytes};
-ghost use Rattle.conflict.specs.Sizes.{destinationMost, sourceMost, rowMost};
+ghost use Rattle.conflict.specs.Sizes.{conflictDestinationMost, conflictSourceMost, conflictRowMost};
 ghost use Rattle.conflict.specs.Shared.{destinationAt, OneRun, runBytes, headAt, listedAt, sourcesAt, firstsAt};
 
 mod sources;
@@ -24,7 +24,7 @@ use sources::wide;
 // How many bytes the destination of the row at a place takes with its length.
 fn destination_size(rows: &[u8], p: usize) -> usize
     requires { ⌜ length (now rows) ≤ rowListBytes ⌝ }
-    ensures { λ r. ⌜ (r ≡ length (textBytes (destinationAt (now (rows .entry)) p))) × (r ≤ destinationMost) ⌝ }
+    ensures { λ r. ⌜ (r ≡ length (textBytes (destinationAt (now (rows .entry)) p))) × (r ≤ conflictDestinationMost) ⌝ }
 {
     let dst = destination_at(rows, p);
     let len = dst.len;
@@ -43,7 +43,7 @@ fn put_destination(out: &mut [u8], to: usize, rows: &[u8], p: usize) -> usize
 // How many bytes a destination takes with the rows at places, each of which has another source.
 fn listed_size(rows: &[u8], firsts: &[u32]) -> usize
     requires { ⌜ (0 < length (now firsts)) × (length (now rows) ≤ rowListBytes) × (length (now firsts) ≤ rowListBytes) ⌝ }
-    ensures { λ r. ⌜ (r ≡ length (listedAt (now (rows .entry)) (now (firsts .entry)))) × (r ≤ length (now (firsts .entry)) * rowMost) ⌝ }
+    ensures { λ r. ⌜ (r ≡ length (listedAt (now (rows .entry)) (now (firsts .entry)))) × (r ≤ length (now (firsts .entry)) * conflictRowMost) ⌝ }
 {
     let count = firsts.len();
     let head = destination_size(rows, wide(firsts[0]));
@@ -72,7 +72,7 @@ fn put_listed(out: &mut [u8], to: usize, rows: &[u8], firsts: &[u32]) -> usize
 // How many bytes the conflict of a run of two takes; 0 where both have one source.
 fn pair_size(rows: &[u8], run: &[u32]) -> usize
     requires { ⌜ OneRun (now rows) (now run) × (length (now run) ≡ 2) × (length (now rows) ≤ rowListBytes) ⌝ }
-    ensures { λ r. ⌜ (r ≡ length (runBytes (now (rows .entry)) (now (run .entry)))) × (r ≤ length (now (run .entry)) * rowMost) ⌝ }
+    ensures { λ r. ⌜ (r ≡ length (runBytes (now (rows .entry)) (now (run .entry)))) × (r ≤ length (now (run .entry)) * conflictRowMost) ⌝ }
 {
     let count = pair_firsts(rows, Key::Source, run);
     if count < 2 {
@@ -83,8 +83,8 @@ fn pair_size(rows: &[u8], run: &[u32]) -> usize
 
 // How many bytes the conflict of a run takes that has so many sources, which take so many bytes.
 fn counted_size(rows: &[u8], run: &[u32], sources: usize, size: usize) -> usize
-    requires { ⌜ OneRun (now rows) (now run) × (0 < length (now run)) × (length (now rows) ≤ rowListBytes) × (length (now run) ≤ rowListBytes) × (sources ≡ length (firstsAt (now rows) (now run))) × (sources ≤ length (now run)) × (size ≡ length (sourcesAt (now rows) (firstsAt (now rows) (now run)))) × (size ≤ length (now run) * sourceMost) ⌝ }
-    ensures { λ r. ⌜ (r ≡ length (runBytes (now (rows .entry)) (now (run .entry)))) × (r ≤ length (now (run .entry)) * rowMost) ⌝ }
+    requires { ⌜ OneRun (now rows) (now run) × (0 < length (now run)) × (length (now rows) ≤ rowListBytes) × (length (now run) ≤ rowListBytes) × (sources ≡ length (firstsAt (now rows) (now run))) × (sources ≤ length (now run)) × (size ≡ length (sourcesAt (now rows) (firstsAt (now rows) (now run)))) × (size ≤ length (now run) * conflictSourceMost) ⌝ }
+    ensures { λ r. ⌜ (r ≡ length (runBytes (now (rows .entry)) (now (run .entry)))) × (r ≤ length (now (run .entry)) * conflictRowMost) ⌝ }
 {
     if sources < 2 {
         return 0;
@@ -96,7 +96,7 @@ fn counted_size(rows: &[u8], run: &[u32], sources: usize, size: usize) -> usize
 // How many bytes the conflict of a run takes, by a sort that brings the rows of a source together, and one back to place order.
 fn sorted_run_size(rows: &[u8], run: &mut [u32], scratch: &mut [u32]) -> usize
     requires { ⌜ OneRun (now rows) (now run) × (0 < length (now run)) × (length (now rows) ≤ rowListBytes) × (length (now run) ≤ rowListBytes) × (length (now run) ≤ 2 * length (now scratch) + 1) ⌝ }
-    ensures { λ r. ⌜ (r ≡ length (runBytes (now (rows .entry)) (now (run .entry)))) × (r ≤ length (now (run .entry)) * rowMost) × (now (run .exit) ≡ now (run .entry)) ⌝ }
+    ensures { λ r. ⌜ (r ≡ length (runBytes (now (rows .entry)) (now (run .entry)))) × (r ≤ length (now (run .entry)) * conflictRowMost) × (now (run .exit) ≡ now (run .entry)) ⌝ }
 {
     sort(rows, Key::Source, run, scratch);
     let heads = heads_size(rows, run);
@@ -107,7 +107,7 @@ fn sorted_run_size(rows: &[u8], run: &mut [u32], scratch: &mut [u32]) -> usize
 // How many bytes the conflict of a run takes; 0 where all its rows have one source. The run is left as it was.
 pub fn run_size(rows: &[u8], run: &mut [u32], scratch: &mut [u32]) -> usize
     requires { ⌜ OneRun (now rows) (now run) × (0 < length (now run)) × (length (now rows) ≤ rowListBytes) × (length (now run) ≤ rowListBytes) × (length (now run) ≤ 2 * length (now scratch) + 1) ⌝ }
-    ensures { λ r. ⌜ (r ≡ length (runBytes (now (rows .entry)) (now (run .entry)))) × (r ≤ length (now (run .entry)) * rowMost) × (now (run .exit) ≡ now (run .entry)) ⌝ }
+    ensures { λ r. ⌜ (r ≡ length (runBytes (now (rows .entry)) (now (run .entry)))) × (r ≤ length (now (run .entry)) * conflictRowMost) × (now (run .exit) ≡ now (run .entry)) ⌝ }
 {
     if run.len() < 2 {
         return 0;

@@ -6,7 +6,7 @@ ghost use Rattle.buffer.specs.Splice.{splice};
 ghost use Rattle.parse.specs.Places.{partAt};
 ghost use Rattle.meaning.specs.Limits.{rowListBytes};
 ghost use Rattle.meaning.specs.Number.{textBytes};
-ghost use Rattle.conflict.specs.Sizes.{sourceMost};
+ghost use Rattle.conflict.specs.Sizes.{conflictSourceMost};
 ghost use Rattle.conflict.specs.Shared.{sourceAt, sourcesAt, Heads};
 use keys::fields::fields;
 use keys::key::Key;
@@ -38,7 +38,7 @@ pub(crate) fn put_text(out: &mut [u8], at: usize, rows: &[u8], start: usize, len
 // How many bytes the source of the row at a place takes in a conflict.
 fn source_size(rows: &[u8], p: usize) -> usize
     requires { ⌜ length (now rows) ≤ rowListBytes ⌝ }
-    ensures { λ r. ⌜ (r ≡ length (sourceAt (now (rows .entry)) p)) × (r ≤ sourceMost) ⌝ }
+    ensures { λ r. ⌜ (r ≡ length (sourceAt (now (rows .entry)) p)) × (r ≤ conflictSourceMost) ⌝ }
 {
     let row = fields(rows, p);
     let numbers = number::size(row.spec) + number::size(row.kind);
@@ -60,7 +60,7 @@ fn put_source(out: &mut [u8], to: usize, rows: &[u8], p: usize) -> usize
 // How many bytes the sources of the rows at places take.
 pub(crate) fn sources_size(rows: &[u8], places: &[u32]) -> usize
     requires { ⌜ (length (now rows) ≤ rowListBytes) × (length (now places) ≤ rowListBytes) ⌝ }
-    ensures { λ r. ⌜ (r ≡ length (sourcesAt (now (rows .entry)) (now (places .entry)))) × (r ≤ length (now (places .entry)) * sourceMost) ⌝ }
+    ensures { λ r. ⌜ (r ≡ length (sourcesAt (now (rows .entry)) (now (places .entry)))) × (r ≤ length (now (places .entry)) * conflictSourceMost) ⌝ }
 {
     let mut size = 0;
     let mut i = 0;

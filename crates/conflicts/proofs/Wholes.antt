@@ -30,7 +30,7 @@ use Rattle.order.proofs.Keys.{keys-order}
 use Rattle.order.proofs.Runs.{group-kept}
 use Rattle.order.proofs.Heads.{ascending-keep}
 use Rattle.conflicts.specs.Listed.{rowsIn, conflictsBytes, putIfRoom}
-use Rattle.conflict.specs.Sizes.{rowMost}
+use Rattle.conflict.specs.Sizes.{conflictRowMost}
 use Rattle.conflict.specs.Shared.{conflictPart}
 use Rattle.conflict.specs.Shared.{rowsAt, destinationAt, OneRun, runBytes}
 use Rattle.conflicts.specs.Indexed.{hasDestination, Given, SortedIndex}
@@ -246,7 +246,7 @@ pub record Walking (specs : ℕ) (s : Text) (d₀ d : List ℕ) (i size : ℕ) :
   pub as-was : d ≡ d₀
   pub same-long : length d ≡ length d₀
   pub measured : size + length (walk s (drop i d)) ≡ length (conflictsBytes (rowsIn specs s))
-  pub small : size ≤ i * rowMost
+  pub small : size ≤ i * conflictRowMost
 
 pub walking-starts : (specs : ℕ) (s : Text) (d : List ℕ) → SortedIndex specs s d → Walking specs s d d 0 0
 walking-starts specs s d x = record { at = here-starts specs s d x; as-was = refl; same-long = refl; measured = omega (arith, ap length (walk-whole specs s d x)); small = omega arith }
@@ -255,7 +255,7 @@ module _ (specs : ℕ) (s : Text) (d₀ d : List ℕ) (i size : ℕ) (m : Walkin
   pub walking-done : length d ≤ i → size ≡ length (conflictsBytes (rowsIn specs s))
   walking-done h = omega (arith, m .measured, ap (λ (l : List ℕ). length (walk s l)) (rest-end d i h))
 
-  module _ (some : i < length d) (end : ℕ) (run : end ≡ i + runOf (sameAt Destination s (getD d i 0)) (drop i d)) (begun : i < end) (room : end ≤ length d) (n : ℕ) (few : n ≤ length (take (end - i) (drop i d)) * rowMost) where
+  module _ (some : i < length d) (end : ℕ) (run : end ≡ i + runOf (sameAt Destination s (getD d i 0)) (drop i d)) (begun : i < end) (room : end ≤ length d) (n : ℕ) (few : n ≤ length (take (end - i) (drop i d)) * conflictRowMost) where
     pub walking-fits : length d₀ ≤ rowListBytes → Fits w64 (size + n)
     walking-fits h = omega (arith, m .small, m .same-long, mid-len i end d room)
 

@@ -19,7 +19,7 @@ use Rattle.promises.proofs.Members.{group-count}
 use Rattle.promises.proofs.ReadBack.{forward-sound, forward-back}
 use Rattle.buffer.specs.Splice.{splice}
 use Rattle.list.proofs.Refusals.{specs-refusal, items-refusal}
-use Rattle.deliver.specs.Printed.{Prints, rowsOf, rowsIn, linesOf, printedRows, Listed}
+use Rattle.deliver.specs.Printed.{Prints, rowsOf, fetchRowsIn, linesOf, printedRows, Listed}
 use Rattle.deliver.proofs.Longer.{rows-long}
 use Rattle.deliver.proofs.Told.{refused-told, told-fits, told-short, told-seventeen, told-length, told-within, told-text}
 
@@ -44,8 +44,8 @@ module _ (specs items : Text) (group : List Spec) (names : List Text) (es : read
     back : readRows specCount (rowListOf (forwardRows group names)) ≡ accepted (forwardRows group names)
     back = forward-back specs items group names es ei (omega arith) specCount (group-count 0 specs group es)
 
-    rows-are : rowsIn (rowListOf (forwardRows group names)) ≡ forwardRows group names
-    unfolding rowsIn
+    rows-are : fetchRowsIn (rowListOf (forwardRows group names)) ≡ forwardRows group names
+    unfolding fetchRowsIn
     rows-are = ap rowsOf back
 
     lists-listed : Listed (rowListOf (forwardRows group names))

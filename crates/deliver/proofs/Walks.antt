@@ -20,11 +20,11 @@ use Rattle.row_list.specs.declared.RowStep.the-variants.{Row, End, Refused}
 use Rattle.row_fields.specs.Fields.{rowMeant}
 use Rattle.row_list.specs.Rows.{RowTaken, RowSays}
 use Rattle.row_list.proofs.RowWalks.{RowsLeft, rows-left, rows-next, rows-end, rows-refused}
-use Rattle.deliver.specs.Printed.{rowsIn, linesOf, Listed, RowStands}
+use Rattle.deliver.specs.Printed.{fetchRowsIn, linesOf, Listed, RowStands}
 
 -- all rows of a list are left at its start
-all-left : (list : Text) → Listed list → (at : ℕ) → at ≡ 0 → RowsLeft specCount list at 0 (rowsIn list)
-all-left list l at e = rw e (rows-left specCount list (rowsIn list) (l .reads))
+all-left : (list : Text) → Listed list → (at : ℕ) → at ≡ 0 → RowsLeft specCount list at 0 (fetchRowsIn list)
+all-left list l at e = rw e (rows-left specCount list (fetchRowsIn list) (l .reads))
 
 -- a line before those that follow it
 lines-next : (r : meaning.Row) (after : List meaning.Row) → linesOf (r ∷ after) ≡ rowLine r ++ linesOf after
@@ -47,11 +47,11 @@ pub record Measured (list : Text) (at size : ℕ) : Type 0 where
   pub rest : List meaning.Row
   pub left : RowsLeft specCount list at number rest
   pub small : size ≤ lineBytes * at
-  pub whole : size + length (linesOf rest) ≡ length (linesOf (rowsIn list))
+  pub whole : size + length (linesOf rest) ≡ length (linesOf (fetchRowsIn list))
 
 -- nothing is measured at the start
 pub measured-starts : (list : Text) → Listed list → (at : ℕ) → at ≡ 0 → Measured list at 0
-measured-starts list l at e = record { number = 0; rest = rowsIn list; left = all-left list l at e; small = omega arith; whole = omega arith }
+measured-starts list l at e = record { number = 0; rest = fetchRowsIn list; left = all-left list l at e; small = omega arith; whole = omega arith }
 
 -- few enough that a machine's number holds the sum with one line more
 module _ (list : Text) (l : Listed list) (at size : ℕ) (m : Measured list at size) where
@@ -71,28 +71,28 @@ module _ (list : Text) (at size : ℕ) (m : Measured list at size) (w : RowStep)
       record { number = _; rest = x .after; left = x .left; small = omega (arith, m .small, t .on); whole = omega (arith, m .whole) }
 
   -- at the end all are measured
-  pub measured-whole : w ≡ End → size ≡ length (linesOf (rowsIn list))
+  pub measured-whole : w ≡ End → size ≡ length (linesOf (fetchRowsIn list))
   measured-whole e =
       let x = rows-end specCount list at (m .number) (m .rest) (m .left) w says e in
       let z : length (linesOf (m .rest)) ≡ 0 = ap (λ (k : List meaning.Row). length (linesOf k)) x ∙ ap length lines-none in
       omega (arith, m .whole)
 
   -- no row is refused
-  pub measured-never : (n : ℕ) → w ≡ Refused n → size ≡ length (linesOf (rowsIn list))
+  pub measured-never : (n : ℕ) → w ≡ Refused n → size ≡ length (linesOf (fetchRowsIn list))
   measured-never n e = rows-refused specCount list at (m .number) (m .rest) (m .left) w says n e
 
 -- the lines are written as far as a place
-pub record Written (d : Text) (from : ℕ) (list : Text) (at : ℕ) (out : Text) (i : ℕ) : Type 0 where
+pub record WrittenRows (d : Text) (from : ℕ) (list : Text) (at : ℕ) (out : Text) (i : ℕ) : Type 0 where
   pub number : ℕ
   pub rest : List meaning.Row
   pub left : RowsLeft specCount list at number rest
-  pub writing : Writing d from (linesOf (rowsIn list)) out i (linesOf rest)
+  pub writing : Writing d from (linesOf (fetchRowsIn list)) out i (linesOf rest)
 
 -- nothing is written at the start
-pub written-starts : (d : Text) (from : ℕ) (list : Text) → Listed list → from + length (linesOf (rowsIn list)) ≤ length d → (at : ℕ) → at ≡ 0 → Written d from list at d from
-written-starts d from list l h at e = record { number = 0; rest = rowsIn list; left = all-left list l at e; writing = writing-starts d from (linesOf (rowsIn list)) h }
+pub written-starts : (d : Text) (from : ℕ) (list : Text) → Listed list → from + length (linesOf (fetchRowsIn list)) ≤ length d → (at : ℕ) → at ≡ 0 → WrittenRows d from list at d from
+written-starts d from list l h at e = record { number = 0; rest = fetchRowsIn list; left = all-left list l at e; writing = writing-starts d from (linesOf (fetchRowsIn list)) h }
 
-module _ (d : Text) (from : ℕ) (list : Text) (at : ℕ) (out : Text) (i : ℕ) (m : Written d from list at out i) (w : RowStep) (says : RowSays specCount list at w) where
+module _ (d : Text) (from : ℕ) (list : Text) (at : ℕ) (out : Text) (i : ℕ) (m : WrittenRows d from list at out i) (w : RowStep) (says : RowSays specCount list at w) where
   -- a row and those after it
   module _ (row : RowPlace) (next : Cursor) (e : w ≡ Row row next) where
     pieces : (after : List meaning.Row) → m .rest ≡ rowMeant list row ∷ after → linesOf (m .rest) ≡ rowLine (rowMeant list row) ++ linesOf after
@@ -102,27 +102,27 @@ module _ (d : Text) (from : ℕ) (list : Text) (at : ℕ) (out : Text) (i : ℕ)
     pub written-room : i + length (rowLine (rowMeant list row)) ≤ length out
     written-room =
         let x = rows-next specCount list at (m .number) (m .rest) (m .left) w says row next e in
-        writing-room d from (linesOf (rowsIn list)) out i (linesOf (m .rest)) (m .writing) (rowLine (rowMeant list row)) (linesOf (x .after)) (pieces (x .after) (x .is))
+        writing-room d from (linesOf (fetchRowsIn list)) out i (linesOf (m .rest)) (m .writing) (rowLine (rowMeant list row)) (linesOf (x .after)) (pieces (x .after) (x .is))
 
     -- one line more
-    pub written-more : (o : Text) (j : ℕ) → o ≡ splice out i (rowLine (rowMeant list row)) → j ≡ i + length (rowLine (rowMeant list row)) → Written d from list (next .at) o j
+    pub written-more : (o : Text) (j : ℕ) → o ≡ splice out i (rowLine (rowMeant list row)) → j ≡ i + length (rowLine (rowMeant list row)) → WrittenRows d from list (next .at) o j
     written-more o j p q =
         let x = rows-next specCount list at (m .number) (m .rest) (m .left) w says row next e in
-        record { number = _; rest = x .after; left = x .left; writing = writing-more d from (linesOf (rowsIn list)) out i (linesOf (m .rest)) (m .writing) (rowLine (rowMeant list row)) (linesOf (x .after)) (pieces (x .after) (x .is)) o j p q }
+        record { number = _; rest = x .after; left = x .left; writing = writing-more d from (linesOf (fetchRowsIn list)) out i (linesOf (m .rest)) (m .writing) (rowLine (rowMeant list row)) (linesOf (x .after)) (pieces (x .after) (x .is)) o j p q }
 
   -- at the end all are written
   nothing : w ≡ End → linesOf (m .rest) ≡ []
   nothing e = ap linesOf (rows-end specCount list at (m .number) (m .rest) (m .left) w says e) ∙ lines-none
 
-  pub written-put : w ≡ End → out ≡ splice d from (linesOf (rowsIn list))
-  written-put e = written-whole d from (linesOf (rowsIn list)) out i (linesOf (m .rest)) (m .writing) (nothing e)
+  pub written-put : w ≡ End → out ≡ splice d from (linesOf (fetchRowsIn list))
+  written-put e = written-whole d from (linesOf (fetchRowsIn list)) out i (linesOf (m .rest)) (m .writing) (nothing e)
 
-  pub written-ends : w ≡ End → i ≡ from + length (linesOf (rowsIn list))
-  written-ends e = written-place d from (linesOf (rowsIn list)) out i (linesOf (m .rest)) (m .writing) (nothing e)
+  pub written-ends : w ≡ End → i ≡ from + length (linesOf (fetchRowsIn list))
+  written-ends e = written-place d from (linesOf (fetchRowsIn list)) out i (linesOf (m .rest)) (m .writing) (nothing e)
 
   -- no row is refused
-  pub never-put : (n : ℕ) → w ≡ Refused n → out ≡ splice d from (linesOf (rowsIn list))
+  pub never-put : (n : ℕ) → w ≡ Refused n → out ≡ splice d from (linesOf (fetchRowsIn list))
   never-put n e = rows-refused specCount list at (m .number) (m .rest) (m .left) w says n e
 
-  pub never-ends : (n : ℕ) → w ≡ Refused n → i ≡ from + length (linesOf (rowsIn list))
+  pub never-ends : (n : ℕ) → w ≡ Refused n → i ≡ from + length (linesOf (fetchRowsIn list))
   never-ends n e = rows-refused specCount list at (m .number) (m .rest) (m .left) w says n e

@@ -13,7 +13,7 @@ use Rattle.parse.specs.Places.{Within}
 use Rattle.row_fields.specs.declared.RowPlace.{RowPlace}
 
 -- the buffers that the program lends: one for the rows, one for the printed text
-pub record Lent (rows out : Text) : Type 0 where
+pub record LongBuffers (rows out : Text) : Type 0 where
   pub rows-size : length rows ≡ programBytes
   pub out-size : programBytes ≤ length out
 
@@ -28,8 +28,8 @@ rowsOf (accepted l) = l
 rowsOf (refused n r) = []
 
 -- the rows of a row list, under as many specs as a group can have
-unfoldable pub rowsIn : Text → List Row
-rowsIn list = rowsOf (readRows specCount list)
+unfoldable pub fetchRowsIn : Text → List Row
+fetchRowsIn list = rowsOf (readRows specCount list)
 
 -- a line for each row
 unfoldable pub linesOf : List Row → Text
@@ -37,12 +37,12 @@ linesOf rows = each rows rowLine
 
 -- what is printed for a row list: the header and a line for each row, or 17
 unfoldable pub printedRows : Text → Text
-printedRows list = output (withinLimit (header ++ linesOf (rowsIn list)))
+printedRows list = output (withinLimit (header ++ linesOf (fetchRowsIn list)))
 
 -- a row list that is accepted, and is no longer than the printed text may be
 pub record Listed (list : Text) : Type 0 where
   pub short : length list ≤ programBytes
-  pub reads : readRows specCount list ≡ accepted (rowsIn list)
+  pub reads : readRows specCount list ≡ accepted (fetchRowsIn list)
 
 -- the texts of a row stand within such a list
 pub record RowStands (list : Text) (row : RowPlace) : Type 0 where

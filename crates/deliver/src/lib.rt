@@ -6,7 +6,7 @@ ghost use Rattle.meaning.specs.Limits.{programBytes};
 ghost use Rattle.meaning.specs.Number.{readBytes};
 ghost use Rattle.meaning.specs.Deliveries.{printed, parted, output, deliveries};
 ghost use Rattle.buffer.specs.Splice.{splice};
-ghost use Rattle.deliver.specs.Printed.{Lent, Prints};
+ghost use Rattle.deliver.specs.Printed.{LongBuffers, Prints};
 
 mod rows;
 
@@ -19,7 +19,7 @@ use rows::print_rows;
 // Prints what a spec list and an item list give at the start of `out`, and answers how many bytes it printed; their rows are put together
 // in `rows`.
 pub fn print_lists(specs: &[u8], items: &[u8], rows: &mut [u8], out: &mut [u8]) -> usize
-    requires { ⌜ Lent (now rows) (now out) ⌝ }
+    requires { ⌜ LongBuffers (now rows) (now out) ⌝ }
     ensures { λ r. ⌜ Prints (output (printed (now (specs .entry)) (now (items .entry)))) (now (out .entry)) (now (out .exit)) r ⌝ }
 {
     let w = match_lhs(0, specs, items, rows);
@@ -32,7 +32,7 @@ pub fn print_lists(specs: &[u8], items: &[u8], rows: &mut [u8], out: &mut [u8]) 
 
 // Prints what the input gives whose spec list has n bytes that begin at `at`.
 fn print_parts(input: &[u8], at: usize, n: usize, rows: &mut [u8], out: &mut [u8]) -> usize
-    requires { ⌜ (at ≤ length (now input)) × Lent (now rows) (now out) ⌝ }
+    requires { ⌜ (at ≤ length (now input)) × LongBuffers (now rows) (now out) ⌝ }
     ensures { λ r. ⌜ Prints (output (parted (readBytes n (drop at (now (input .entry)))))) (now (out .entry)) (now (out .exit)) r ⌝ }
 {
     if input.len() - at < n {

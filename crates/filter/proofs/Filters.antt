@@ -28,10 +28,10 @@ use Rattle.matcher.specs.declared.types.Lead.{Lead}
 use Rattle.matcher.specs.declared.types.Matcher.{Matcher}
 use Rattle.matcher.specs.declared.types.Ends.the-variants as ends
 use Rattle.matcher.specs.Matching.{MatcherWithin, StarIn, needleMeant, targetMeant}
-use Rattle.matched.specs.Answers.{hitBy, needleForm, reverseForms}
-use Rattle.matched.proofs.Caught.{between}
-use Rattle.matched.proofs.Onward.{forward-told}
-use Rattle.matched.proofs.Backward.{back-told}
+use Rattle.match_one.specs.Answers.{hitBy, needleForm, reverseForms}
+use Rattle.match_one.proofs.Caught.{between}
+use Rattle.match_one.proofs.Onward.{forward-told}
+use Rattle.match_one.proofs.Backward.{back-told}
 use Rattle.filter.specs.declared.Filter.{Filter}
 use Rattle.filter.specs.Filters.{frameAdds, looksRight, passes, FilterWithin, sized, alike, noFilter, wholeFilter, startFilter, partFilter, StopsForward, StopsReverse}
 use Rattle.filter.proofs.Looks.{number-part}

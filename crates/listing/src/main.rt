@@ -4,13 +4,13 @@ ghost use Prim.Native.Nat.{_≤_};
 ghost use lib.ListN.{length};
 ghost use Rattle.meaning.specs.Limits.{programBytes};
 use deliver::print_lists;
-use gather::gather;
 use libc::STDIN_FILENO;
 use libc::STDOUT_FILENO;
 use limits::ITEM_LIST_BYTES;
 use limits::PROGRAM_BYTES;
 use limits::SPEC_LIST_BYTES;
-use words::reason;
+use refusal_words::reason;
+use text_lists::gather;
 
 // Prints bytes as they are.
 fn say(t: &[u8]) {

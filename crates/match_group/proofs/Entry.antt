@@ -23,15 +23,15 @@ use Rattle.spec_list.specs.declared.record.SpecRecord.{SpecRecord}
 use Rattle.spec_list.specs.Group.{groupMeant, GroupRead}
 use Rattle.list.proofs.Told.{Passed, items-passed, items-failed}
 use Rattle.spec_list.proofs.Told.{GroupPassed, group-passed, group-failed}
-use Rattle.matchers.specs.Numbers.{matcherNumbers}
-use Rattle.exclude.specs.Negatives.{excludedBy}
-use Rattle.pair.specs.Asking.{Askable}
-use Rattle.hits.specs.Hits.{groupGives}
-use Rattle.hits.specs.Noting.{PlacesIn, TableReady}
-use Rattle.noted.specs.Standing.{NotedAll}
-use Rattle.noted.specs.Reading.{Grouped, TableIs}
-use Rattle.noted.proofs.Groups.{group-ready, group-noted}
-use Rattle.match_group.specs.Listing.{rowsIn, listingBytes, listing, firstBytes, tableBytes, listed}
+use Rattle.matcher_table.specs.Numbers.{matcherNumbers}
+use Rattle.negatives.specs.Negatives.{excludedBy}
+use Rattle.match_row.specs.Asking.{Askable}
+use Rattle.search.specs.Hits.{groupGives}
+use Rattle.search.specs.Noting.{PlacesIn, TableReady}
+use Rattle.group_tables.specs.Standing.{NotedAll}
+use Rattle.group_tables.specs.Reading.{Grouped, TableIs}
+use Rattle.group_tables.proofs.Groups.{group-ready, group-noted}
+use Rattle.match_group.specs.Listing.{listingRows, listingBytes, listing, firstBytes, tableBytes, listed}
 use Rattle.match_group.proofs.Listings.{listing-bytes}
 use Rattle.match_group.proofs.Tables.{table-ready, table-bytes, places-in}
 
@@ -108,7 +108,7 @@ module _ (specs : Text) (records : List SpecRecord) (n : ℕ) (r : Grouped specs
         names : Passed (readItems items) (c .count)
         names = items-passed items c (ec .answer) zc
 
-        same : tableBytes back (excludedBy specs negatives k) specs table n items places (c .count) ≡ rowListOf (rowsIn back group (names .members))
+        same : tableBytes back (excludedBy specs negatives k) specs table n items places (c .count) ≡ rowListOf (listingRows back group (names .members))
         same =
             let g = excludedBy specs negatives k in
             let e : namesOf (readItems items) ≡ names .members = rw (names .answer) in

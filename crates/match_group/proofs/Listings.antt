@@ -9,9 +9,9 @@ use Rattle.meaning.specs.Spec.{Spec, isNegative}
 use Rattle.meaning.specs.Rows.{Row, rowBytes, rowListOf}
 use Rattle.meaning.specs.Match.{formOf, objectSource, whole, Mapped, unmapped, mapped, mapsTo}
 use Rattle.meaning.specs.Listing.{Ends, nameRow, nameRows, groupRows, objectRow, objectRows, excludes, notExcluded, forwardRows, reverseRows}
-use Rattle.hits.proofs.Given.{each-append}
-use Rattle.pair.specs.Pairs.{endsIn, rowUnless, itemBytes, objectBytes}
-use Rattle.match_group.specs.Listing.{eachFrom, rowsIn, itemsFrom, bytesOfSpec, listingBytes}
+use Rattle.search.proofs.Given.{each-append}
+use Rattle.match_row.specs.Pairs.{endsIn, rowUnless, itemBytes, objectBytes}
+use Rattle.match_group.specs.Listing.{eachFrom, listingRows, itemsFrom, bytesOfSpec, listingBytes}
 
 keep-append : {A : Type 0} (test : A → Bool) (l m : List A) → keep test (l ++ m) ≡ keep test l ++ keep test m
 keep-append test [] m = refl
@@ -94,7 +94,7 @@ objects-kept group =
     ∙ eachFrom-same (λ i s. kept (notExcluded group) (objectRows (i, s))) objectBytes (object-stays group) 0 group
 
 -- the bytes of a listing's rows are what the loops write
-pub listing-bytes : (reverse : Bool) (gone : Text → Bool) (group : List Spec) → Gone gone group → (names : List Text) → rowListOf (rowsIn reverse group names) ≡ listingBytes reverse gone group names
+pub listing-bytes : (reverse : Bool) (gone : Text → Bool) (group : List Spec) → Gone gone group → (names : List Text) → rowListOf (listingRows reverse group names) ≡ listingBytes reverse gone group names
 unfolding reverseRows forwardRows
 listing-bytes true gone group h names = group-kept true gone group h names
 listing-bytes false gone group h names =

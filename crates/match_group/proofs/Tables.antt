@@ -16,16 +16,16 @@ use Rattle.meaning.specs.Match.{literal, pattern, afterStar, formOf, formNeedle
 use Rattle.meaning.specs.Listing.{forwardEnds, reverseEnds, objectRows}
 use Rattle.matcher.specs.declared.types.Matcher.{Matcher}
 use Rattle.matcher.specs.Matching.{Matches}
-use Rattle.matchers.specs.Numbers.{matcherNumbers, matcherAt, noMatcher}
+use Rattle.matcher_table.specs.Numbers.{matcherNumbers, matcherAt, noMatcher}
 use Rattle.list.specs.Places.{namesOf, PlacesOf}
 use Rattle.filter.specs.Filters.{nameAt}
-use Rattle.pair.specs.Pairs.{specOf, endsIn, itemBytes, objectBytes}
-use Rattle.pair.specs.Asking.{Ready}
-use Rattle.hits.specs.Hits.{across, specAt, pairGives, specGives, groupGives, objectsGive}
-use Rattle.hits.specs.Noting.{PlacesIn, TableReady}
-use Rattle.hits.proofs.Across.{across-same}
-use Rattle.noted.specs.Standing.{Stands}
-use Rattle.noted.specs.Reading.{TableIs}
+use Rattle.match_row.specs.Pairs.{specOf, endsIn, itemBytes, objectBytes}
+use Rattle.match_row.specs.Asking.{Ready}
+use Rattle.search.specs.Hits.{across, specAt, pairGives, specGives, groupGives, objectsGive}
+use Rattle.search.specs.Noting.{PlacesIn, TableReady}
+use Rattle.search.proofs.Across.{across-same}
+use Rattle.group_tables.specs.Standing.{Stands}
+use Rattle.group_tables.specs.Reading.{TableIs}
 use Rattle.match_group.specs.Listing.{eachFrom, itemsFrom, bytesOfSpec, listingBytes, tableBytes}
 
 -- ---- one spec

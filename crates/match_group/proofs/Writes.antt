@@ -10,11 +10,11 @@ use Rattle.meaning.specs.Bytes.{Text, each}
 use Rattle.buffer.specs.Splice.{splice}
 use Rattle.buffer.proofs.Splices.{length-splice, splice-next}
 use Rattle.buffer.proofs.Writing.{Writing, writing-starts, writing-room, writing-more, written-place, written-whole}
-use Rattle.pair.specs.Asking.{Put}
-use Rattle.hits.specs.Hits.{across, specGives, groupGives, objectsGive, specHits, groupHits, objectHits, hitBytes}
-use Rattle.hits.specs.Noting.{PlacesIn, Adds, Good, AllGood}
-use Rattle.hits.proofs.Across.{across-next, across-none}
-use Rattle.hits.proofs.Given.{Gives, gives-none, gives-both, gives-good, spec-gives, group-gives, objects-give, spec-few-hits, objects-few-hits}
+use Rattle.match_row.specs.Asking.{Put}
+use Rattle.search.specs.Hits.{across, specGives, groupGives, objectsGive, specHits, groupHits, objectHits, hitBytes}
+use Rattle.search.specs.Noting.{PlacesIn, Adds, Good, AllGood}
+use Rattle.search.proofs.Across.{across-next, across-none}
+use Rattle.search.proofs.Given.{Gives, gives-none, gives-both, gives-good, spec-gives, group-gives, objects-give, spec-few-hits, objects-few-hits}
 use Rattle.match_group.specs.Listing.{firstBytes, firstHits, tableBytes, tableHits, Noted}
 
 -- ---- what comes first

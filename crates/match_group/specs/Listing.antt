@@ -13,8 +13,8 @@ use Rattle.meaning.specs.Buffers.{Outputs}
 use Rattle.meaning.specs.Entries.{_andThen_, matchLhs, matchRhs}
 use Rattle.meaning.specs.Rows.{Row, rowListOf}
 use Rattle.meaning.specs.Listing.{forwardRows, reverseRows}
-use Rattle.pair.specs.Pairs.{itemBytes, objectBytes}
-use Rattle.hits.specs.Hits.{groupGives, objectsGive, groupHits, objectHits}
+use Rattle.match_row.specs.Pairs.{itemBytes, objectBytes}
+use Rattle.search.specs.Hits.{groupGives, objectsGive, groupHits, objectHits}
 
 -- how many specs are few
 abbrev pub fewSpecs : ℕ
@@ -26,9 +26,9 @@ eachFrom f n [] = []
 eachFrom f n (x ∷ l) = f n x ++ eachFrom f (suc n) l
 
 -- the rows of a listing, forward or in reverse
-abbrev pub rowsIn : Bool → List Spec → List Text → List Row
-rowsIn true = reverseRows
-rowsIn false = forwardRows
+abbrev pub listingRows : Bool → List Spec → List Text → List Row
+listingRows true = reverseRows
+listingRows false = forwardRows
 
 -- what a spec gives for each name, their numbers counting up from n
 abbrev pub itemsFrom : (ℕ → Text → Spec → Text) → ℕ → List Text → Spec → Text
@@ -45,7 +45,7 @@ listingBytes false gone group names = eachFrom objectBytes 0 group ++ eachFrom (
 
 -- what the listing of a group answers on an item list
 abbrev pub listing : Bool → List Spec → Text → Answer Outputs
-listing back group items = readItems items andThen λ names. accepted (some (rowListOf (rowsIn back group names)) ∷ [])
+listing back group items = readItems items andThen λ names. accepted (some (rowListOf (listingRows back group names)) ∷ [])
 
 -- what a listing answers, forward or in reverse
 abbrev pub listed : Bool → ℕ → Text → Text → Answer Outputs

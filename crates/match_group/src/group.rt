@@ -7,22 +7,22 @@ ghost use lib.ListN.{length};
 ghost use Rattle.meaning.specs.Spec.{accepted};
 ghost use Rattle.meaning.specs.Buffers.{MeetsOne};
 ghost use Rattle.buffer.specs.Splice.{splice};
-ghost use Rattle.exclude.specs.Negatives.{excludedBy};
-ghost use Rattle.pair.specs.Asking.{Askable, Put};
-ghost use Rattle.hits.specs.Hits.{specGives};
-ghost use Rattle.hits.specs.Noting.{objectsMost, hitRoom, PlacesIn, TableReady, Adds};
+ghost use Rattle.negatives.specs.Negatives.{excludedBy};
+ghost use Rattle.match_row.specs.Asking.{Askable, Put};
+ghost use Rattle.search.specs.Hits.{specGives};
+ghost use Rattle.search.specs.Noting.{objectsMost, hitRoom, PlacesIn, TableReady, Adds};
 ghost use Rattle.match_group.specs.Listing.{firstBytes, firstHits, tableBytes, tableHits, Noted};
 use buffer::written::Written;
 use buffer::written::done;
 use buffer::written::short;
-use hits::found::Found;
-use hits::found::HIT_ROOM;
-use hits::found::objects_found;
-use hits::found::spec_found;
-use hits::found::specs_found;
-use hits::put::put_hits;
-use hits::scope::Scope;
-use hits::scope::Turn;
+use search::found::Found;
+use search::found::HIT_ROOM;
+use search::found::objects_found;
+use search::found::spec_found;
+use search::found::specs_found;
+use search::put::put_hits;
+use search::scope::Scope;
+use search::scope::Turn;
 
 // The hits that are noted: how many of them are of object sources, which stand first, and how many all are; more than there is room for
 // where one was not noted.

@@ -5,23 +5,23 @@ ghost use lib.ListN.{length, take};
 ghost use Rattle.meaning.specs.Buffers.{MeetsOne};
 ghost use Rattle.meaning.specs.Entries.{matchLhs, matchRhs};
 ghost use Rattle.spec_list.specs.Group.{groupMeant};
-ghost use Rattle.matchers.specs.Numbers.{matcherNumbers};
-ghost use Rattle.exclude.specs.Negatives.{negativeNumbers};
-ghost use Rattle.noted.specs.Reading.{Grouped};
+ghost use Rattle.matcher_table.specs.Numbers.{matcherNumbers};
+ghost use Rattle.negatives.specs.Negatives.{negativeNumbers};
+ghost use Rattle.group_tables.specs.Reading.{Grouped};
 ghost use Rattle.match_group.specs.Listing.{fewSpecs, listing, listed};
 
 mod group;
 
 use buffer::written::Written;
 use buffer::written::refused;
-use exclude::NEGATIVE_NUMBERS;
 use group::list_group;
-use hits::scope::Scope;
+use group_tables::note_group;
 use limits::ITEM_COUNT;
 use limits::SPEC_COUNT;
 use list::places::read_places;
-use matchers::MATCHER_NUMBERS;
-use noted::note_group;
+use matcher_table::MATCHER_NUMBERS;
+use negatives::NEGATIVE_NUMBERS;
+use search::scope::Scope;
 use spec_list::read_specs;
 use spec_list::record::SpecRecord;
 

@@ -22,8 +22,8 @@ use Rattle.matcher.specs.declared.types.Target.{Target}
 use Rattle.matcher.specs.declared.types.Target.the-variants as target
 use Rattle.matcher.specs.declared.types.Matcher.{Matcher}
 use Rattle.matcher.specs.declared.types.Filled.{Filled}
-use Rattle.matcher.specs.declared.types.Made.{Made}
-use Rattle.matcher.specs.declared.types.Made.the-variants as made
+use Rattle.matcher.specs.declared.types.RowText.{RowText}
+use Rattle.matcher.specs.declared.types.RowText.the-variants as made
 use Rattle.matcher.specs.declared.types.Ends.{Ends}
 use Rattle.matcher.specs.declared.types.Ends.the-variants as ends
 
@@ -40,16 +40,16 @@ abbrev pub filledText : Text → Text → Filled → Text
 filledText specs name f = partAt specs (f .start) (f .«start_len») ++ (partAt name (f .from) (f .len) ++ partAt specs (f .end) (f .«end_len»))
 
 -- the text that a match makes, by the bytes of the spec list and the name
-abbrev pub madeMeant : Text → Text → Made → Option Text
-madeMeant specs name made.Absent = none
-madeMeant specs name made.Name = some name
-madeMeant specs name (made.Led l s) = some (ledText l (sideText specs s))
-madeMeant specs name (made.Filled f) = some (filledText specs name f)
+abbrev pub rowTextMeant : Text → Text → RowText → Option Text
+rowTextMeant specs name made.Absent = none
+rowTextMeant specs name made.Name = some name
+rowTextMeant specs name (made.Led l s) = some (ledText l (sideText specs s))
+rowTextMeant specs name (made.Filled f) = some (filledText specs name f)
 
 -- the ends of a row
 abbrev pub endsMeant : Text → Text → Ends → Option listing.Ends
 endsMeant specs name ends.Nothing = none
-endsMeant specs name (ends.Row source destination) = some (record { source = orEmpty (madeMeant specs name source); destination = madeMeant specs name destination })
+endsMeant specs name (ends.Row source destination) = some (record { source = orEmpty (rowTextMeant specs name source); destination = rowTextMeant specs name destination })
 
 -- what a source whose text is t looks for
 abbrev pub needleMeant : Text → Needle → Option meaning.Needle
@@ -78,16 +78,16 @@ pub record FilledWithin (len nameLen : ℕ) (f : Filled) : Type 0 where
   pub end-within : f .end + f .«end_len» ≤ len
 
 -- the places of a text that a match makes stand within so many bytes of a spec list and of a name
-abbrev pub MadeWithin : ℕ → ℕ → Made → Type 0
-MadeWithin len nameLen made.Absent = Unit {0}
-MadeWithin len nameLen made.Name = Unit {0}
-MadeWithin len nameLen (made.Led l s) = Within len s
-MadeWithin len nameLen (made.Filled f) = FilledWithin len nameLen f
+abbrev pub RowTextWithin : ℕ → ℕ → RowText → Type 0
+RowTextWithin len nameLen made.Absent = Unit {0}
+RowTextWithin len nameLen made.Name = Unit {0}
+RowTextWithin len nameLen (made.Led l s) = Within len s
+RowTextWithin len nameLen (made.Filled f) = FilledWithin len nameLen f
 
 -- the places of a row's ends
 abbrev pub EndsWithin : ℕ → ℕ → Ends → Type 0
 EndsWithin len nameLen ends.Nothing = Unit {0}
-EndsWithin len nameLen (ends.Row source destination) = MadeWithin len nameLen source × MadeWithin len nameLen destination
+EndsWithin len nameLen (ends.Row source destination) = RowTextWithin len nameLen source × RowTextWithin len nameLen destination
 
 -- a star stands in a side, which is then a part of the spec list
 abbrev pub StarIn : ℕ → Side → Type 0

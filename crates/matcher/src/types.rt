@@ -58,7 +58,7 @@ pub struct Filled {
 }
 
 // A text that a match makes.
-pub enum Made {
+pub enum RowText {
     // There is none.
     Absent,
     // The name that was matched.
@@ -72,5 +72,8 @@ pub enum Made {
 // The ends of a row, or that there is none.
 pub enum Ends {
     Nothing,
-    Row { source: Made, destination: Made },
+    Row {
+        source: RowText,
+        destination: RowText,
+    },
 }

@@ -24,7 +24,7 @@ use Rattle.refspec.proofs.Fronts.{remote-within}
 use Rattle.write.proofs.Lists.{expand-is, yield-within}
 use Rattle.spec_list.specs.Group.{groupMeant, AllWithin}
 use Rattle.spec_list.specs.declared.record.SpecRecord.{SpecRecord}
-use Rattle.spec_list.specs.Table.{specFrom, specAt}
+use Rattle.spec_list.specs.Table.{specFrom, recordAt}
 use Rattle.spec_list.proofs.Groups.{table-next, table-within, table-end}
 use Rattle.prefixes.specs.declared.entry.Entry.{Entry}
 use Rattle.prefixes.specs.Distinct.{addAll}
@@ -195,7 +195,7 @@ module _ (op : ℕ) (specs : Text) (group : List SpecRecord) (n : ℕ) (table₀
     pub collecting-room : 18 * specCount ≤ length table₀ → 3 * c + 18 ≤ length table
     collecting-room h = omega (arith, m .few, m .kept)
 
-    module _ (size : length group ≡ specCount) (q : SpecRecord) (is : q ≡ specAt (take n group) i) (r : RefSpec) (tells : r ≡ specFrom q) (in-list : AllWithin (length specs) (take n group)) where
+    module _ (size : length group ≡ specCount) (q : SpecRecord) (is : q ≡ recordAt (take n group) i) (r : RefSpec) (tells : r ≡ specFrom q) (in-list : AllWithin (length specs) (take n group)) where
       -- the next record stands within the list
       pub collecting-within : SidesWithin (length specs) r
       collecting-within = rw tells (table-within group n i q is size few-specs below (length specs) in-list)

@@ -16,21 +16,21 @@ use mir.Val.{Fits}
 use mir.Syntax.{w64}
 use Rattle.buffer.proofs.Threes.{three-first, three-second, three-third, three-put, three-end}
 use Rattle.number.proofs.Bytes.{bytes-few, size-one}
-use Rattle.matcher.specs.declared.types.Made.{Made}
-use Rattle.matcher.specs.declared.types.Made.the-variants.{Absent, Name, Led, Filled}
-use Rattle.matcher.specs.Matching.{madeMeant}
-use Rattle.made.specs.Leads.{madeMost}
+use Rattle.matcher.specs.declared.types.RowText.{RowText}
+use Rattle.matcher.specs.declared.types.RowText.the-variants.{Absent, Name, Led, Filled}
+use Rattle.matcher.specs.Matching.{rowTextMeant}
+use Rattle.row_text.specs.Leads.{madeMost}
 use Rattle.row.specs.Rows.{isAbsent, rowMeant, rowNumbers, presentBytes, textMost, rowMost}
 
 -- a destination that is absent
-pub destination-none : (specs name : Text) (m : Made) → isAbsent m ≡ true → destinationBytes (madeMeant specs name m) ≡ numberBytes 0
+pub destination-none : (specs name : Text) (m : RowText) → isAbsent m ≡ true → destinationBytes (rowTextMeant specs name m) ≡ numberBytes 0
 destination-none specs name Absent e = refl
 destination-none specs name Name e = absurd (let z : _≡_ {A = ℕ} 0 1 = cc in omega arith)
 destination-none specs name (Led l s) e = absurd (let z : _≡_ {A = ℕ} 0 1 = cc in omega arith)
 destination-none specs name (Filled f) e = absurd (let z : _≡_ {A = ℕ} 0 1 = cc in omega arith)
 
 -- one that is there
-pub destination-some : (specs name : Text) (m : Made) → isAbsent m ≡ false → destinationBytes (madeMeant specs name m) ≡ presentBytes (orEmpty (madeMeant specs name m))
+pub destination-some : (specs name : Text) (m : RowText) → isAbsent m ≡ false → destinationBytes (rowTextMeant specs name m) ≡ presentBytes (orEmpty (rowTextMeant specs name m))
 destination-some specs name Absent e = absurd (let z : _≡_ {A = ℕ} 0 1 = cc in omega arith)
 destination-some specs name Name e = refl
 destination-some specs name (Led l s) e = refl
@@ -88,42 +88,42 @@ module _ (t : Text) (n : ℕ) (size : n ≡ length t) (d : Text) (at : ℕ) (fit
     present-end j e = rw (present-pieces t n size) (pair-end d at (numberBytes (n + 1)) t present-both o i eo ei j e)
 
 -- a destination, measured and written
-module _ (specs name : Text) (m : Made) (b : Bool) (eb : b ≡ isAbsent m) where
-  pub none-size : b ≡ true → 1 ≡ length (destinationBytes (madeMeant specs name m))
+module _ (specs name : Text) (m : RowText) (b : Bool) (eb : b ≡ isAbsent m) where
+  pub none-size : b ≡ true → 1 ≡ length (destinationBytes (rowTextMeant specs name m))
   none-size t = rw (destination-none specs name m (sym eb ∙ t), size-one 0 (omega arith))
 
-  pub some-size : b ≡ false → (n : ℕ) → n ≡ length (orEmpty (madeMeant specs name m)) → (k : ℕ) → k ≡ length (numberBytes (n + 1)) → k + n ≡ length (destinationBytes (madeMeant specs name m))
-  some-size t n e k f = rw (destination-some specs name m (sym eb ∙ t), present-pieces (orEmpty (madeMeant specs name m)) n e) (omega (arith, length-append (numberBytes (n + 1)) (orEmpty (madeMeant specs name m))))
+  pub some-size : b ≡ false → (n : ℕ) → n ≡ length (orEmpty (rowTextMeant specs name m)) → (k : ℕ) → k ≡ length (numberBytes (n + 1)) → k + n ≡ length (destinationBytes (rowTextMeant specs name m))
+  some-size t n e k f = rw (destination-some specs name m (sym eb ∙ t), present-pieces (orEmpty (rowTextMeant specs name m)) n e) (omega (arith, length-append (numberBytes (n + 1)) (orEmpty (rowTextMeant specs name m))))
 
-  module _ (d : Text) (at : ℕ) (fits : at + length (destinationBytes (madeMeant specs name m)) ≤ length d) where
+  module _ (d : Text) (at : ℕ) (fits : at + length (destinationBytes (rowTextMeant specs name m)) ≤ length d) where
     pub none-room : b ≡ true → at + length (numberBytes 0) ≤ length d
     none-room t = rw (destination-none specs name m (sym eb ∙ t)) at fits
 
-    pub none-put : b ≡ true → (o : Text) → o ≡ splice d at (numberBytes 0) → o ≡ splice d at (destinationBytes (madeMeant specs name m))
+    pub none-put : b ≡ true → (o : Text) → o ≡ splice d at (numberBytes 0) → o ≡ splice d at (destinationBytes (rowTextMeant specs name m))
     none-put t o e = rw (destination-none specs name m (sym eb ∙ t)) e
 
-    pub none-end : b ≡ true → (i : ℕ) → i ≡ at + length (numberBytes 0) → i ≡ at + length (destinationBytes (madeMeant specs name m))
+    pub none-end : b ≡ true → (i : ℕ) → i ≡ at + length (numberBytes 0) → i ≡ at + length (destinationBytes (rowTextMeant specs name m))
     none-end t i e = rw (destination-none specs name m (sym eb ∙ t)) e
 
-    pub some-room : b ≡ false → at + length (presentBytes (orEmpty (madeMeant specs name m))) ≤ length d
+    pub some-room : b ≡ false → at + length (presentBytes (orEmpty (rowTextMeant specs name m))) ≤ length d
     some-room t = rw (destination-some specs name m (sym eb ∙ t)) at fits
 
-    pub some-put : b ≡ false → (o : Text) → o ≡ splice d at (presentBytes (orEmpty (madeMeant specs name m))) → o ≡ splice d at (destinationBytes (madeMeant specs name m))
+    pub some-put : b ≡ false → (o : Text) → o ≡ splice d at (presentBytes (orEmpty (rowTextMeant specs name m))) → o ≡ splice d at (destinationBytes (rowTextMeant specs name m))
     some-put t o e = rw (destination-some specs name m (sym eb ∙ t)) e
 
-    pub some-end : b ≡ false → (i : ℕ) → i ≡ at + length (presentBytes (orEmpty (madeMeant specs name m))) → i ≡ at + length (destinationBytes (madeMeant specs name m))
+    pub some-end : b ≡ false → (i : ℕ) → i ≡ at + length (presentBytes (orEmpty (rowTextMeant specs name m))) → i ≡ at + length (destinationBytes (rowTextMeant specs name m))
     some-end t i e = rw (destination-some specs name m (sym eb ∙ t)) e
 
 -- a row
-module _ (specs name : Text) (item spec kind : ℕ) (source destination : Made) where
+module _ (specs name : Text) (item spec kind : ℕ) (source destination : RowText) where
   abbrev first : Text
   first = rowNumbers item spec kind
 
   abbrev second : Text
-  second = textBytes (orEmpty (madeMeant specs name source))
+  second = textBytes (orEmpty (rowTextMeant specs name source))
 
   abbrev third : Text
-  third = destinationBytes (madeMeant specs name destination)
+  third = destinationBytes (rowTextMeant specs name destination)
 
   -- its bytes
   pieces : rowBytes (rowMeant specs name item spec kind source destination) ≡ first ++ (second ++ third)
@@ -135,7 +135,7 @@ module _ (specs name : Text) (item spec kind : ℕ) (source destination : Made) 
       sym (append-assoc a (b ++ c) (second ++ third) ∙ ap (λ (x : Text). a ++ x) (append-assoc b c (second ++ third)))
 
   -- how many there are
-  pub row-size : (a b c s d : ℕ) → a ≡ length (numberBytes item) → b ≡ length (numberBytes spec) → c ≡ length (numberBytes kind) → s ≡ length (textBytes (orEmpty (madeMeant specs name source))) → d ≡ length (destinationBytes (madeMeant specs name destination)) → a + b + c + s + d ≡ length (rowBytes (rowMeant specs name item spec kind source destination))
+  pub row-size : (a b c s d : ℕ) → a ≡ length (numberBytes item) → b ≡ length (numberBytes spec) → c ≡ length (numberBytes kind) → s ≡ length (textBytes (orEmpty (rowTextMeant specs name source))) → d ≡ length (destinationBytes (rowTextMeant specs name destination)) → a + b + c + s + d ≡ length (rowBytes (rowMeant specs name item spec kind source destination))
   row-size a b c s d ea eb ec es ed =
       let A = numberBytes item in
       let B = numberBytes spec in
@@ -151,15 +151,15 @@ module _ (specs name : Text) (item spec kind : ℕ) (source destination : Made) 
     row-first = three-first d at first second third all
 
     module _ (o : Text) (i : ℕ) (eo : o ≡ splice d at (rowNumbers item spec kind)) (ei : i ≡ at + length (rowNumbers item spec kind)) where
-      pub row-second : i + length (textBytes (orEmpty (madeMeant specs name source))) ≤ length o
+      pub row-second : i + length (textBytes (orEmpty (rowTextMeant specs name source))) ≤ length o
       row-second = three-second d at first second third all o i eo ei
 
-      module _ (p : Text) (j : ℕ) (ep : p ≡ splice o i (textBytes (orEmpty (madeMeant specs name source)))) (ej : j ≡ i + length (textBytes (orEmpty (madeMeant specs name source)))) where
-        pub row-third : j + length (destinationBytes (madeMeant specs name destination)) ≤ length p
+      module _ (p : Text) (j : ℕ) (ep : p ≡ splice o i (textBytes (orEmpty (rowTextMeant specs name source)))) (ej : j ≡ i + length (textBytes (orEmpty (rowTextMeant specs name source)))) where
+        pub row-third : j + length (destinationBytes (rowTextMeant specs name destination)) ≤ length p
         row-third = three-third d at first second third all o i eo ei p j ep ej
 
-        pub row-put : (q : Text) → q ≡ splice p j (destinationBytes (madeMeant specs name destination)) → q ≡ splice d at (rowBytes (rowMeant specs name item spec kind source destination))
+        pub row-put : (q : Text) → q ≡ splice p j (destinationBytes (rowTextMeant specs name destination)) → q ≡ splice d at (rowBytes (rowMeant specs name item spec kind source destination))
         row-put q e = rw pieces (three-put d at first second third all o i eo ei p j ep ej q e)
 
-        pub row-end : (k : ℕ) → k ≡ j + length (destinationBytes (madeMeant specs name destination)) → k ≡ at + length (rowBytes (rowMeant specs name item spec kind source destination))
+        pub row-end : (k : ℕ) → k ≡ j + length (destinationBytes (rowTextMeant specs name destination)) → k ≡ at + length (rowBytes (rowMeant specs name item spec kind source destination))
         row-end k e = rw pieces (three-end d at first second third all o i eo ei p j ep ej k e)

@@ -7,40 +7,40 @@ use Rattle.meaning.specs.Bytes.{Text, orEmpty}
 use Rattle.meaning.specs.Limits.{specListBytes, nameBytes, itemCount, specCount, numberGroups}
 use Rattle.meaning.specs.Number.{numberBytes}
 use Rattle.meaning.specs.Rows.{Row}
-use Rattle.matcher.specs.declared.types.Made.{Made}
-use Rattle.matcher.specs.declared.types.Made.the-variants.{Absent, Name, Led, Filled}
-use Rattle.matcher.specs.Matching.{madeMeant, MadeWithin}
-use Rattle.made.specs.Leads.{madeMost}
+use Rattle.matcher.specs.declared.types.RowText.{RowText}
+use Rattle.matcher.specs.declared.types.RowText.the-variants.{Absent, Name, Led, Filled}
+use Rattle.matcher.specs.Matching.{rowTextMeant, RowTextWithin}
+use Rattle.row_text.specs.Leads.{madeMost}
 
 -- a text is not there
-abbrev pub isAbsent : Made → Bool
+abbrev pub isAbsent : RowText → Bool
 isAbsent Absent = true
 isAbsent Name = false
 isAbsent (Led lead side) = false
 isAbsent (Filled f) = false
 
 -- the sizes of a spec list and of a name that were read
-pub record Lent (specs name : Text) : Type 0 where
+pub record ShortTexts (specs name : Text) : Type 0 where
   pub specs-short : length specs ≤ specListBytes
   pub name-short : length name ≤ nameBytes
 
 -- the numbers of a row are small, and its texts stand within the spec list and the name
-pub record RowWithin (len nameLen item spec kind : ℕ) (source destination : Made) : Type 0 where
+pub record RowWithin (len nameLen item spec kind : ℕ) (source destination : RowText) : Type 0 where
   pub item-small : item ≤ itemCount
   pub spec-small : spec ≤ specCount
   pub kind-small : kind ≤ 1
-  pub source-within : MadeWithin len nameLen source
-  pub destination-within : MadeWithin len nameLen destination
+  pub source-within : RowTextWithin len nameLen source
+  pub destination-within : RowTextWithin len nameLen destination
 
 -- the row that is meant
-unfoldable pub rowMeant : Text → Text → ℕ → ℕ → ℕ → Made → Made → Row
+unfoldable pub rowMeant : Text → Text → ℕ → ℕ → ℕ → RowText → RowText → Row
 rowMeant s name item spec kind source destination =
     record {
       item = item;
       spec = spec;
       kind = kind;
-      source = orEmpty (madeMeant s name source);
-      destination = madeMeant s name destination;
+      source = orEmpty (rowTextMeant s name source);
+      destination = rowTextMeant s name destination;
     }
 
 -- the numbers that a row begins with

@@ -7,11 +7,11 @@ ghost use Rattle.meaning.specs.Limits.{itemCount, specCount};
 ghost use Rattle.meaning.specs.Number.{textBytes};
 ghost use Rattle.meaning.specs.Rows.{destinationBytes, rowBytes};
 ghost use Rattle.buffer.specs.Splice.{splice};
-ghost use Rattle.matcher.specs.Matching.{madeMeant, MadeWithin};
-ghost use Rattle.row.specs.Rows.{Lent, RowWithin, isAbsent, rowMeant, rowNumbers, presentBytes, textMost, rowMost};
-use made::made_size;
-use made::put_made;
-use matcher::types::Made;
+ghost use Rattle.matcher.specs.Matching.{rowTextMeant, RowTextWithin};
+ghost use Rattle.row.specs.Rows.{ShortTexts, RowWithin, isAbsent, rowMeant, rowNumbers, presentBytes, textMost, rowMost};
+use matcher::types::RowText;
+use row_text::put_row_text;
+use row_text::row_text_size;
 
 // The numbers that a row begins with: its item number plus 1 or 0, its spec number and its source kind.
 pub struct Numbers {
@@ -21,35 +21,35 @@ pub struct Numbers {
 }
 
 // There is no text.
-fn is_absent(m: Made) -> bool
+fn is_absent(m: RowText) -> bool
     ensures { λ r. ⌜ r ≡ isAbsent m ⌝ }
 {
     match m {
-        Made::Absent => true,
-        Made::Name => false,
-        Made::Led(_, _) => false,
-        Made::Filled(_) => false,
+        RowText::Absent => true,
+        RowText::Name => false,
+        RowText::Led(_, _) => false,
+        RowText::Filled(_) => false,
     }
 }
 
 // How many bytes a source takes, its length before it.
-fn source_size(specs: &[u8], name: &[u8], source: Made) -> usize
-    requires { ⌜ Lent (now specs) (now name) × MadeWithin (length (now specs)) (length (now name)) source ⌝ }
-    ensures { λ r. ⌜ (r ≡ length (textBytes (orEmpty (madeMeant (now (specs .entry)) (now (name .entry)) source)))) × (r ≤ textMost) ⌝ }
+fn source_size(specs: &[u8], name: &[u8], source: RowText) -> usize
+    requires { ⌜ ShortTexts (now specs) (now name) × RowTextWithin (length (now specs)) (length (now name)) source ⌝ }
+    ensures { λ r. ⌜ (r ≡ length (textBytes (orEmpty (rowTextMeant (now (specs .entry)) (now (name .entry)) source)))) × (r ≤ textMost) ⌝ }
 {
-    let n = made_size(specs, name, source);
+    let n = row_text_size(specs, name, source);
     number::size(n) + n
 }
 
 // How many bytes a destination takes: its length plus 1 before it, or 0 alone where there is none.
-fn destination_size(specs: &[u8], name: &[u8], destination: Made) -> usize
-    requires { ⌜ Lent (now specs) (now name) × MadeWithin (length (now specs)) (length (now name)) destination ⌝ }
-    ensures { λ r. ⌜ (r ≡ length (destinationBytes (madeMeant (now (specs .entry)) (now (name .entry)) destination))) × (r ≤ textMost) ⌝ }
+fn destination_size(specs: &[u8], name: &[u8], destination: RowText) -> usize
+    requires { ⌜ ShortTexts (now specs) (now name) × RowTextWithin (length (now specs)) (length (now name)) destination ⌝ }
+    ensures { λ r. ⌜ (r ≡ length (destinationBytes (rowTextMeant (now (specs .entry)) (now (name .entry)) destination))) × (r ≤ textMost) ⌝ }
 {
     if is_absent(destination) {
         return 1;
     }
-    let n = made_size(specs, name, destination);
+    let n = row_text_size(specs, name, destination);
     number::size(n + 1) + n
 }
 
@@ -58,10 +58,10 @@ pub fn row_size(
     specs: &[u8],
     name: &[u8],
     numbers: Numbers,
-    source: Made,
-    destination: Made,
+    source: RowText,
+    destination: RowText,
 ) -> usize
-    requires { ⌜ Lent (now specs) (now name) × RowWithin (length (now specs)) (length (now name)) (numbers .item) (numbers .spec) (numbers .kind) source destination ⌝ }
+    requires { ⌜ ShortTexts (now specs) (now name) × RowWithin (length (now specs)) (length (now name)) (numbers .item) (numbers .spec) (numbers .kind) source destination ⌝ }
     ensures { λ r. ⌜ (r ≡ length (rowBytes (rowMeant (now (specs .entry)) (now (name .entry)) (numbers .item) (numbers .spec) (numbers .kind) source destination))) × (r ≤ rowMost) ⌝ }
 {
     let three = number::size(numbers.item)
@@ -81,29 +81,35 @@ fn put_numbers(out: &mut [u8], at: usize, numbers: Numbers) -> usize
 }
 
 // Writes a source, its length before it, and answers the place after it.
-fn put_source(out: &mut [u8], at: usize, specs: &[u8], name: &[u8], source: Made) -> usize
-    requires { ⌜ Lent (now specs) (now name) × MadeWithin (length (now specs)) (length (now name)) source × (at + length (textBytes (orEmpty (madeMeant (now specs) (now name) source))) ≤ length (now out)) ⌝ }
-    ensures { λ r. ⌜ (now (out .exit) ≡ splice (now (out .entry)) at (textBytes (orEmpty (madeMeant (now (specs .entry)) (now (name .entry)) source)))) × (r ≡ at + length (textBytes (orEmpty (madeMeant (now (specs .entry)) (now (name .entry)) source)))) ⌝ }
+fn put_source(out: &mut [u8], at: usize, specs: &[u8], name: &[u8], source: RowText) -> usize
+    requires { ⌜ ShortTexts (now specs) (now name) × RowTextWithin (length (now specs)) (length (now name)) source × (at + length (textBytes (orEmpty (rowTextMeant (now specs) (now name) source))) ≤ length (now out)) ⌝ }
+    ensures { λ r. ⌜ (now (out .exit) ≡ splice (now (out .entry)) at (textBytes (orEmpty (rowTextMeant (now (specs .entry)) (now (name .entry)) source)))) × (r ≡ at + length (textBytes (orEmpty (rowTextMeant (now (specs .entry)) (now (name .entry)) source)))) ⌝ }
 {
-    let n = made_size(specs, name, source);
+    let n = row_text_size(specs, name, source);
     let i = number::put(out, at, n);
-    put_made(out, i, specs, name, source)
+    put_row_text(out, i, specs, name, source)
 }
 
 // Writes a destination that is there, its length plus 1 before it, and answers the place after it.
-fn put_present(out: &mut [u8], at: usize, specs: &[u8], name: &[u8], destination: Made) -> usize
-    requires { ⌜ Lent (now specs) (now name) × MadeWithin (length (now specs)) (length (now name)) destination × (at + length (presentBytes (orEmpty (madeMeant (now specs) (now name) destination))) ≤ length (now out)) ⌝ }
-    ensures { λ r. ⌜ (now (out .exit) ≡ splice (now (out .entry)) at (presentBytes (orEmpty (madeMeant (now (specs .entry)) (now (name .entry)) destination)))) × (r ≡ at + length (presentBytes (orEmpty (madeMeant (now (specs .entry)) (now (name .entry)) destination)))) ⌝ }
+fn put_present(out: &mut [u8], at: usize, specs: &[u8], name: &[u8], destination: RowText) -> usize
+    requires { ⌜ ShortTexts (now specs) (now name) × RowTextWithin (length (now specs)) (length (now name)) destination × (at + length (presentBytes (orEmpty (rowTextMeant (now specs) (now name) destination))) ≤ length (now out)) ⌝ }
+    ensures { λ r. ⌜ (now (out .exit) ≡ splice (now (out .entry)) at (presentBytes (orEmpty (rowTextMeant (now (specs .entry)) (now (name .entry)) destination)))) × (r ≡ at + length (presentBytes (orEmpty (rowTextMeant (now (specs .entry)) (now (name .entry)) destination)))) ⌝ }
 {
-    let n = made_size(specs, name, destination);
+    let n = row_text_size(specs, name, destination);
     let i = number::put(out, at, n + 1);
-    put_made(out, i, specs, name, destination)
+    put_row_text(out, i, specs, name, destination)
 }
 
 // Writes a destination, and answers the place after it.
-fn put_destination(out: &mut [u8], at: usize, specs: &[u8], name: &[u8], destination: Made) -> usize
-    requires { ⌜ Lent (now specs) (now name) × MadeWithin (length (now specs)) (length (now name)) destination × (at + length (destinationBytes (madeMeant (now specs) (now name) destination)) ≤ length (now out)) ⌝ }
-    ensures { λ r. ⌜ (now (out .exit) ≡ splice (now (out .entry)) at (destinationBytes (madeMeant (now (specs .entry)) (now (name .entry)) destination))) × (r ≡ at + length (destinationBytes (madeMeant (now (specs .entry)) (now (name .entry)) destination))) ⌝ }
+fn put_destination(
+    out: &mut [u8],
+    at: usize,
+    specs: &[u8],
+    name: &[u8],
+    destination: RowText,
+) -> usize
+    requires { ⌜ ShortTexts (now specs) (now name) × RowTextWithin (length (now specs)) (length (now name)) destination × (at + length (destinationBytes (rowTextMeant (now specs) (now name) destination)) ≤ length (now out)) ⌝ }
+    ensures { λ r. ⌜ (now (out .exit) ≡ splice (now (out .entry)) at (destinationBytes (rowTextMeant (now (specs .entry)) (now (name .entry)) destination))) × (r ≡ at + length (destinationBytes (rowTextMeant (now (specs .entry)) (now (name .entry)) destination))) ⌝ }
 {
     if is_absent(destination) {
         return number::put(out, at, 0);
@@ -118,10 +124,10 @@ pub fn put_row(
     specs: &[u8],
     name: &[u8],
     numbers: Numbers,
-    source: Made,
-    destination: Made,
+    source: RowText,
+    destination: RowText,
 ) -> usize
-    requires { ⌜ Lent (now specs) (now name) × RowWithin (length (now specs)) (length (now name)) (numbers .item) (numbers .spec) (numbers .kind) source destination × (at + length (rowBytes (rowMeant (now specs) (now name) (numbers .item) (numbers .spec) (numbers .kind) source destination)) ≤ length (now out)) ⌝ }
+    requires { ⌜ ShortTexts (now specs) (now name) × RowWithin (length (now specs)) (length (now name)) (numbers .item) (numbers .spec) (numbers .kind) source destination × (at + length (rowBytes (rowMeant (now specs) (now name) (numbers .item) (numbers .spec) (numbers .kind) source destination)) ≤ length (now out)) ⌝ }
     ensures { λ r. ⌜ (now (out .exit) ≡ splice (now (out .entry)) at (rowBytes (rowMeant (now (specs .entry)) (now (name .entry)) (numbers .item) (numbers .spec) (numbers .kind) source destination))) × (r ≡ at + length (rowBytes (rowMeant (now (specs .entry)) (now (name .entry)) (numbers .item) (numbers .spec) (numbers .kind) source destination))) ⌝ }
 {
     let i = put_numbers(out, at, numbers);

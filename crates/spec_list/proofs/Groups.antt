@@ -25,7 +25,7 @@ use Rattle.spec_list.specs.declared.SpecStep.the-variants as found
 use Rattle.spec_list.specs.declared.Group.{Group}
 use Rattle.spec_list.specs.declared.record.SpecRecord.{SpecRecord}
 use Rattle.spec_list.specs.Group.{recordMeant, groupMeant, AllWithin, GroupRefused, GroupRead, SpecTaken, SpecTurned, SpecSays}
-use Rattle.spec_list.specs.Table.{specFrom, blank, specAt}
+use Rattle.spec_list.specs.Table.{specFrom, blank, recordAt}
 use Rattle.list.proofs.Records.{records-past, records-no, records-took}
 use Rattle.list.proofs.Refusals.{specs-positive}
 
@@ -122,12 +122,12 @@ module _ (op : ℕ) (s : Text) (g : Group) where
 
 -- record i of a table that is lent, as `spec_of` hands it on
 
-pub all-within : (len : ℕ) (l : List SpecRecord) (i : ℕ) → i < length l → AllWithin len l → SidesWithin len (specFrom (specAt l i))
+pub all-within : (len : ℕ) (l : List SpecRecord) (i : ℕ) → i < length l → AllWithin len l → SidesWithin len (specFrom (recordAt l i))
 all-within len [] i h w = absurd (omega arith)
 all-within len (r ∷ l) zero h w = w .0
 all-within len (r ∷ l) (suc i) h w = all-within len l i (omega arith) (w .1)
 
-module _ (t : List SpecRecord) (n i : ℕ) (r : SpecRecord) (is : r ≡ specAt (take n t) i) (size : length t ≡ specCount) (few : n ≤ specCount) (below : i < n) where
+module _ (t : List SpecRecord) (n i : ℕ) (r : SpecRecord) (is : r ≡ recordAt (take n t) i) (size : length t ≡ specCount) (few : n ≤ specCount) (below : i < n) where
   there : i < length (take n t)
   there = omega (arith, length-take-le n t (omega arith))
 

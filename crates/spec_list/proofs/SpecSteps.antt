@@ -67,7 +67,7 @@ module _ (op : ℕ) (s : Text) (start len : ℕ) (inside : start + len ≤ lengt
       pub spec-within : SidesWithin (length s) q
       spec-within = rw eq (sides-shifted start len (length s) r spec-sides inside)
 
--- the answers of `spec_at`
+-- the answers of `next_spec`
 module _ (op j : ℕ) (s : Text) (at : ℕ) where
   pub spec-full : at < length s → specCount ≤ j → SpecTurned op j s at 14
   spec-full h k = record { here = h; reads = spec-beyond op j (drop at s) k }

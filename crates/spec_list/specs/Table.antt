@@ -16,5 +16,5 @@ abbrev pub blank : SpecRecord
 blank = record { mode = Normal; «src_kind» = 0; «src_at» = 0; «src_len» = 0; «dst_kind» = 0; «dst_at» = 0; «dst_len» = 0 }
 
 -- record number i of a table
-abbrev pub specAt : List SpecRecord → ℕ → SpecRecord
-specAt table i = getD table i blank
+abbrev pub recordAt : List SpecRecord → ℕ → SpecRecord
+recordAt table i = getD table i blank

@@ -82,7 +82,7 @@ fn spec_in(op: u64, list: &[u8], start: usize, len: usize, next: Cursor) -> Spec
 }
 
 // The spec that stands at a cursor with `count` specs behind it: questions 14, 13, and its own.
-fn spec_at(op: u64, list: &[u8], c: Cursor, count: usize) -> SpecStep
+fn next_spec(op: u64, list: &[u8], c: Cursor, count: usize) -> SpecStep
     requires { ⌜ length (now list) ≤ specListBytes ⌝ }
     ensures { λ r. ⌜ SpecSays op count (now (list .entry)) (c .at) r ⌝ }
 {
@@ -139,7 +139,7 @@ fn each_spec(op: u64, list: &[u8]) -> Group
     let mut c = Cursor::new();
     let mut count: usize = 0;
     loop {
-        match spec_at(op, list, c, count) {
+        match next_spec(op, list, c, count) {
             SpecStep::Spec { spec, next } => {
                 specs[count] = record_of(spec);
                 c = next;
@@ -186,7 +186,7 @@ fn each_checked(op: u64, list: &[u8]) -> Checked
     let mut c = Cursor::new();
     let mut count: usize = 0;
     loop {
-        match spec_at(op, list, c, count) {
+        match next_spec(op, list, c, count) {
             SpecStep::Spec { spec: _, next } => {
                 c = next;
                 count += 1;

@@ -3,10 +3,10 @@
 ghost use Prim.Native.Nat.{_≤_};
 ghost use lib.ListN.{length};
 ghost use Rattle.meaning.specs.Limits.{programBytes};
-use gather::line::Line;
-use gather::line::classify;
 use libc::STDIN_FILENO;
 use limits::PROGRAM_BYTES;
+use text_lists::line::Line;
+use text_lists::line::classify;
 
 mod print;
 mod show;

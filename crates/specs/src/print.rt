@@ -1,6 +1,6 @@
 // Printing on standard output. A byte outside 33 to 126, and `%`, is printed as `%` and two capital hexadecimal digits.
 use libc::STDOUT_FILENO;
-use words::reason;
+use refusal_words::reason;
 
 // Prints bytes as they are.
 pub(crate) fn say(t: &[u8]) {

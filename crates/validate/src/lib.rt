@@ -12,8 +12,8 @@ ghost use Rattle.meaning.specs.Buffers.{MeetsTwo};
 ghost use Rattle.conflicts.specs.Listed.{rowsIn, RowsRead};
 ghost use Rattle.validate.specs.Answers.{refusedWith, shortOf};
 use conflicts::put_conflicts;
-use kept::measure;
-use kept::put_rows;
+use kept_rows::measure;
+use kept_rows::put_rows;
 use row_list::read_rows;
 use spec_list::check_specs;
 

@@ -1,5 +1,5 @@
 -- `filter::forward_filter` meets its contract: each needle is missed by what its filter stops.
-use Rattle.matched.proofs.Onward.{needle-star-in}
+use Rattle.match_one.proofs.Onward.{needle-star-in}
 use Rattle.filter.proofs.Filters.{forward-stops-absent, forward-stops-glob, forward-stops-full, forward-stops-object, forward-stops-part}
 use borrow.Author.Needs.{needs}
 use Rattle.filter.proofs.forward_filter.Statement.{statement}

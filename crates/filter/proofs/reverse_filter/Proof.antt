@@ -1,5 +1,5 @@
 -- `filter::reverse_filter` meets its contract: each destination is missed by what its filter stops.
-use Rattle.matched.proofs.Onward.{target-star-in}
+use Rattle.match_one.proofs.Onward.{target-star-in}
 use Rattle.filter.proofs.Filters.{reverse-stops-absent, reverse-stops-pattern, reverse-stops-literal}
 use borrow.Author.Needs.{needs}
 use Rattle.filter.proofs.reverse_filter.Statement.{statement}

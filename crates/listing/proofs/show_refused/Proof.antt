@@ -1,11 +1,11 @@
 -- As many bytes are printed as count. Assumes nothing.
-use Rattle.words.proofs.Phrases.{spells-taken}
+use Rattle.refusal_words.proofs.Phrases.{spells-taken}
 use borrow.Author.Needs.{needs}
 use Rattle.listing.proofs.show_refused.Statement.{statement}
 use Rattle.listing.proofs.show_refused.Tie as tie
 use Rattle.io.proofs.print_decimal.Reads as print-decimal-reads
 use Rattle.listing.proofs.say.Reads as say-reads
-use Rattle.words.proofs.reason.Reads as reason-reads
+use Rattle.refusal_words.proofs.reason.Reads as reason-reads
 
 slice-aggregate-say : tie.Need-slice-aggregate-say
 slice-aggregate-say c = search needs

@@ -4,7 +4,7 @@ use borrow.Author.Needs.{needs}
 use Rattle.row.proofs.destination_size.Statement.{statement}
 use Rattle.row.proofs.destination_size.Tie as tie
 use Rattle.row.proofs.is_absent.Reads as is-absent-reads
-use Rattle.made.proofs.made_size.Reads as made-size-reads
+use Rattle.row_text.proofs.row_text_size.Reads as row-text-size-reads
 use Rattle.number.proofs.size.Reads as size-reads
 
 is-absent-requires : tie.Need-is-absent-requires
@@ -13,8 +13,8 @@ is-absent-requires c κs = search needs
 returns : tie.Need-returns
 returns c = (search none-size, search needs)
 
-made-size-requires : tie.Need-made-size-requires
-made-size-requires c κs = search needs
+row-text-size-requires : tie.Need-row-text-size-requires
+row-text-size-requires c κs = search needs
 
 add-size : tie.Need-add-size
 add-size c = search needs
@@ -34,7 +34,7 @@ destination-size-spec =
     (tie.spec
     is-absent-requires
     returns
-    made-size-requires
+    row-text-size-requires
     add-size
     size-requires
     add-result

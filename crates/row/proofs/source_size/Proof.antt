@@ -4,11 +4,11 @@ use Rattle.row.proofs.Rows.{text-fits, source-small}
 use borrow.Author.Needs.{needs}
 use Rattle.row.proofs.source_size.Statement.{statement}
 use Rattle.row.proofs.source_size.Tie as tie
-use Rattle.made.proofs.made_size.Reads as made-size-reads
+use Rattle.row_text.proofs.row_text_size.Reads as row-text-size-reads
 use Rattle.number.proofs.size.Reads as size-reads
 
-made-size-requires : tie.Need-made-size-requires
-made-size-requires c κs = search needs
+row-text-size-requires : tie.Need-row-text-size-requires
+row-text-size-requires c κs = search needs
 
 size-requires : tie.Need-size-requires
 size-requires c κs = search needs
@@ -20,4 +20,4 @@ returns : tie.Need-returns
 returns c = (search text-size, search source-small)
 
 pub source-size-spec : {M : Type 1} → statement M
-source-size-spec = tie.close (tie.spec made-size-requires size-requires add-result returns)
+source-size-spec = tie.close (tie.spec row-text-size-requires size-requires add-result returns)

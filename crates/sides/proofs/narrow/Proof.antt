@@ -3,11 +3,11 @@ use borrow.Author.Needs.{needs}
 use Rattle.sides.proofs.narrow.Statement.{statement}
 use Rattle.sides.proofs.narrow.Tie as tie
 
-cast : tie.Need-cast
-cast c = search needs
+cast-result : tie.Need-cast-result
+cast-result c = search needs
 
 returns : tie.Need-returns
 returns c = search needs
 
 pub narrow-spec : {M : Type 1} → statement M
-narrow-spec = tie.close (tie.spec cast returns)
+narrow-spec = tie.close (tie.spec cast-result returns)

@@ -20,8 +20,8 @@ new-requires c κs = search needs
 loop-holds : tie.Need-loop-holds Inv-loop μ-loop
 loop-holds c = search specs-start
 
-spec-at-requires : tie.Need-spec-at-requires Inv-loop μ-loop
-spec-at-requires c κs = search needs
+next-spec-requires : tie.Need-next-spec-requires Inv-loop μ-loop
+next-spec-requires c κs = search needs
 
 enum-known-next : tie.Need-enum-known-next Inv-loop μ-loop
 enum-known-next c = search needs
@@ -55,7 +55,7 @@ each-checked-spec =
     μ-loop
     new-requires
     loop-holds
-    spec-at-requires
+    next-spec-requires
     enum-known-next
     add-count
     loop-less

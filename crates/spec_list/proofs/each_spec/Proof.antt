@@ -21,8 +21,8 @@ new-requires c κs = search needs
 loop-holds : tie.Need-loop-holds Inv-loop μ-loop
 loop-holds c = search filling-starts
 
-spec-at-requires : tie.Need-spec-at-requires Inv-loop μ-loop
-spec-at-requires c κs = search needs
+next-spec-requires : tie.Need-next-spec-requires Inv-loop μ-loop
+next-spec-requires c κs = search needs
 
 enum-known-spec : tie.Need-enum-known-spec Inv-loop μ-loop
 enum-known-spec c = search needs
@@ -66,7 +66,7 @@ each-spec-spec =
     no-specs-requires
     new-requires
     loop-holds
-    spec-at-requires
+    next-spec-requires
     enum-known-spec
     record-of-requires
     mul-specs

@@ -1,5 +1,5 @@
 -- Neither the kept rows nor the fixes are longer than the row list. Assumes nothing.
-use Rattle.kept.proofs.Walks.{kept-within, fixes-within}
+use Rattle.kept_rows.proofs.Walks.{kept-within, fixes-within}
 use borrow.Author.Needs.{needs}
 use Rattle.validate.proofs.passed.Statement.{statement}
 use Rattle.validate.proofs.passed.Tie as tie

@@ -2,13 +2,13 @@
 use Prim.Native.Nat.{_-_}
 use lib.ListN.{length}
 use Rattle.row_list.proofs.RowSteps.{rows-less}
-use Rattle.deliver.proofs.Walks.{Written, row-stands, written-starts, written-room, written-more, written-put, written-ends, never-put, never-ends}
+use Rattle.deliver.proofs.Walks.{WrittenRows, row-stands, written-starts, written-room, written-more, written-put, written-ends, never-put, never-ends}
 use borrow.Author.Needs.{needs}
 use Rattle.deliver.proofs.rows.put_rows.Statement.{statement}
 use Rattle.deliver.proofs.rows.put_rows.Tie as tie
 
 abbrev Inv-loop : tie.InvT-loop
-Inv-loop out₀ at list c₀ i₀ out c i = Written out₀ i₀ list (c .at) out i
+Inv-loop out₀ at list c₀ i₀ out c i = WrittenRows out₀ i₀ list (c .at) out i
 
 abbrev μ-loop : tie.MeasureT-loop
 μ-loop out₀ at list c₀ i₀ out c i = length list - c .at

@@ -1,7 +1,7 @@
 -- What was measured fits and is written, or 17 is told.
 use denote.Ref.{now}
 use native.Mathlib.Omega.{arith}
-use Rattle.exclude.specs.Negatives.{excludedBy}
+use Rattle.negatives.specs.Negatives.{excludedBy}
 use Rattle.match_group.proofs.Writes.{first-fits, first-noted, all-noted}
 use Rattle.match_group.proofs.Entry.{list-short, list-fits, list-written}
 use borrow.Author.Needs.{needs}

@@ -4,7 +4,7 @@ use Prim.Native.Nat.{_-_, _≤_}
 use native.Mathlib.Omega.{arith}
 use lib.ListN.{length}
 use denote.Ref.{now}
-use Rattle.exclude.specs.Negatives.{excludedBy}
+use Rattle.negatives.specs.Negatives.{excludedBy}
 use Rattle.match_group.proofs.Writes.{taken-long, first-good, first-room, second-room, both-put, SpecsWritten, specs-begin, specs-room, specs-next, specs-end}
 use borrow.Author.Needs.{needs}
 use Rattle.match_group.proofs.group.put_again.Statement.{statement}

@@ -36,7 +36,7 @@ use denote.Triple.Spec.{Meets, tripleOf}
 use denote.Triple.Table.{entered}
 use denote.Triple.Walked.{says, needs, Stays, stay-none, stay-none-slice, walkOf, goes-none, goes-none-slice, Walks, ends-at, walked, walk-meets}
 use denote.Exit.{yes}
-use Rattle.spec_list.specs.Table.{blank, specAt}
+use Rattle.spec_list.specs.Table.{blank, recordAt}
 use Rattle.spec_list.specs.declared.record.SpecRecord.{SpecRecord}
 use Rattle.spec_list.proofs.record.SpecRecord as T
 use Rattle.spec_list.proofs.record.SpecRecord.Laws as T′
@@ -60,7 +60,7 @@ module _ {M : Type 1} (𝓤 : URA M) (H : Heap 𝓤) (A : Atoms 𝓤) (W : Given
 
   -- the record that is handed on, and its machine value
   abbrev elem : SpecRecord
-  elem = specAt ys i
+  elem = recordAt ys i
 
   abbrev mach : Val
   mach = LL.tuple-val T.the-type T′.the-laws (T.the-type .to elem)

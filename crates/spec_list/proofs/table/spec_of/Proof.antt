@@ -48,7 +48,7 @@ use denote.Triple.Walked.{says, needs, Stays, stay-none, walkOf, goes-none, Walk
 use denote.Triple.Clauses.{ensured, lasts}
 use denote.Exit.{yes}
 use Rattle.meaning.specs.Limits.{specCount}
-use Rattle.spec_list.specs.Table.{specAt}
+use Rattle.spec_list.specs.Table.{recordAt}
 use Rattle.spec_list.specs.declared.record.SpecRecord.{SpecRecord}
 use Rattle.spec_list.proofs.record.SpecRecord as T
 use Rattle.spec_list.proofs.record.SpecRecord.Laws as T′
@@ -90,7 +90,7 @@ module _ {M : Type 1} (𝓤 : URA M) (H : Heap 𝓤) (A : Atoms 𝓤) (W : Given
 
   -- the record that is handed on
   abbrev elem : SpecRecord
-  elem = specAt ys i
+  elem = recordAt ys i
 
   -- what is owed at the result
   abbrev Post : Val → SProp 𝓤

@@ -1,10 +1,10 @@
 -- As many bytes are printed as count. Assumes nothing.
-use Rattle.words.proofs.Phrases.{spells-taken}
+use Rattle.refusal_words.proofs.Phrases.{spells-taken}
 use borrow.Author.Needs.{needs}
 use Rattle.specs.proofs.print.say_reason.Statement.{statement}
 use Rattle.specs.proofs.print.say_reason.Tie as tie
 use Rattle.specs.proofs.print.say.Reads as say-reads
-use Rattle.words.proofs.reason.Reads as reason-reads
+use Rattle.refusal_words.proofs.reason.Reads as reason-reads
 
 reason-requires : tie.Need-reason-requires
 reason-requires c κs = search needs

@@ -1,0 +1,66 @@
+-- The rule of the table of phrases: one test of the whole table, and what it says of each entry. Assumes nothing.
+use mathlib.Core.Path.{_≡_, sym, ap, _∙_}
+use mathlib.Core.Bool.{Bool, true, false, false≢true}
+use mathlib.Core.List.{List, [], _∷_}
+use Prim.Native.Nat.{ℕ, zero, suc, _≤_, _<_}
+use native.Mathlib.Omega.{arith}
+use borrow.Author.Tests.{eqb-true, leb-true, le-leb, lt-leb, ne-eqb}
+use lib.Dec.{eqb, leb}
+use lib.ListN.{length, take, getD}
+use Rattle.meaning.specs.Bytes.{Text, _and_, same}
+use Rattle.promises.proofs.Laws.{and-left, and-right, same-is}
+use Rattle.refusal_words.specs.Words.{placeOf, phraseAt, reasonWords, Spells}
+use Rattle.refusal_words.specs.declared.Words.{Words}
+
+-- an entry spells a phrase
+abbrev pub rightEntry : Text → Words → Bool
+rightEntry t e = same (take (e .1) (e .0)) t and eqb (e .1) (length t) and leb (e .1) (length (e .0))
+
+-- a table spells phrases, entry by entry
+abbrev pub rightTable : List Text → List Words → Bool
+rightTable [] [] = true
+rightTable [] (e ∷ es) = false
+rightTable (t ∷ ts) [] = false
+rightTable (t ∷ ts) (e ∷ es) = rightEntry t e and rightTable ts es
+
+right-entry : (t : Text) (e : Words) → rightEntry t e ≡ true → Spells t (e .0) (e .1)
+right-entry t e r =
+    let a = same (take (e .1) (e .0)) t in
+    let b = eqb (e .1) (length t) in
+    let c = leb (e .1) (length (e .0)) in
+    let s = and-right a (b and c) r in
+    record { spells = same-is (take (e .1) (e .0)) t (and-left a (b and c) r); counts = eqb-true (e .1) (length t) (and-left b c s); within = leb-true (e .1) (length (e .0)) (and-right b c s) }
+
+-- every entry of a right table spells the phrase of its place
+pub right-at : (ts : List Text) (es : List Words) → rightTable ts es ≡ true → (k : ℕ) → k < length es → (d : Words) → Spells (getD ts k []) (getD es k d .0) (getD es k d .1)
+right-at [] [] r k h d = absurd (omega arith)
+right-at [] (e ∷ es) r k h d = absurd (false≢true r)
+right-at (t ∷ ts) [] r k h d = absurd (false≢true r)
+right-at (t ∷ ts) (e ∷ es) r zero h d = right-entry t e (and-left (rightEntry t e) (rightTable ts es) r)
+right-at (t ∷ ts) (e ∷ es) r (suc k) h d = right-at ts es (and-right (rightEntry t e) (rightTable ts es) r) k (omega arith) d
+
+-- the phrase at the place of a reason is its words
+pub reason-spelled : (n k : ℕ) (array : Text) (size : ℕ) → k ≡ placeOf n → Spells (phraseAt k) array size → Spells (reasonWords n) array size
+unfolding reasonWords
+reason-spelled n k array size e s = rw (← e) s
+
+-- the places of the phrases
+pub place-number : (n : ℕ) → n ≤ 15 → n ≡ placeOf n
+unfolding placeOf
+place-number n h = rw (le-leb n 15 h)
+
+pub place-push : (n : ℕ) → 15 < n → n ≡ 101 → 16 ≡ placeOf n
+unfolding placeOf
+place-push n h e = rw e
+
+pub place-unknown : (n : ℕ) → 15 < n → n ≡ 102 → 17 ≡ placeOf n
+unfolding placeOf
+place-unknown n h e = rw e
+
+pub place-other : (n : ℕ) → 15 < n → (n ≡ 101 → ⊥) → (n ≡ 102 → ⊥) → 0 ≡ placeOf n
+unfolding placeOf
+place-other n h a b = rw (lt-leb n 15 h, ne-eqb n 101 a, ne-eqb n 102 b)
+
+-- as many bytes are there as count
+pub spells-taken : (t array : Text) (size : ℕ) → Spells t array size → size ≡ length (take size array)
+spells-taken t array size s = s .counts ∙ sym (ap length (s .spells))

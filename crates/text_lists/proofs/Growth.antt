@@ -1,0 +1,159 @@
+-- A list that grows in its buffer, line by line. Assumes nothing.
+use Prim.Native.Nat.{ℕ, zero, suc, _+_, _-_, _≤_}
+use mathlib.Core.Path.{_≡_, refl, sym, _∙_}
+use mathlib.Core.List.{List, [], _∷_, append-nil}
+use native.Mathlib.Omega.{arith}
+use mir.Val.{Fits}
+use mir.Syntax.{w64}
+use lib.ListN.{length, take, drop}
+use Rattle.meaning.specs.Bytes.{Text}
+use Rattle.meaning.specs.Limits.{specListBytes, itemListBytes}
+use Rattle.meaning.specs.Number.{textBytes, recordBytes}
+use Rattle.buffer.specs.Splice.{splice}
+use Rattle.buffer.proofs.Splices.{splice-none}
+use Rattle.text.proofs.Rests.{rest-part}
+use Rattle.text_lists.specs.declared.line.Line.{Line}
+use Rattle.text_lists.specs.declared.line.Line.the-variants.{Nothing, Fetch, Push, Name, Unknown}
+use Rattle.text_lists.specs.Line.{Held, nothing, unknown, fetch, push, name, heldIn, Tells}
+use Rattle.text_lists.specs.declared.Lists.{Lists}
+use Rattle.text_lists.specs.Gather.{specReason, nameReason, reasonOf, specsIn, namesIn}
+use Rattle.text_lists.specs.Growing.{Room, stopped, unlessRefused, Grows, SpecAdds, NameAdds, LineAdds}
+use Rattle.text_lists.proofs.Reasons.{spec-passes, name-passes}
+
+-- what is refused adds nothing
+pub refused-none : (n : ℕ) (l : List Text) → (n ≡ 0 → ⊥) → unlessRefused n l ≡ []
+refused-none zero l h = absurd (h refl)
+refused-none (suc n) l h = refl
+
+none-new : (n : ℕ) → unlessRefused n [] ≡ []
+none-new zero = refl
+none-new (suc n) = refl
+
+-- the bytes of no text and of one
+no-bytes : recordBytes [] ≡ []
+unfolding recordBytes
+no-bytes = refl
+
+one-bytes : (t : Text) → recordBytes (t ∷ []) ≡ textBytes t
+unfolding recordBytes
+one-bytes t = append-nil (textBytes t)
+
+-- a list stays
+stays : (limit count size : ℕ) (d : Text) → size ≤ limit → Grows limit [] count size d count size d
+stays limit count size d h = record {
+  count-is = omega arith;
+  size-is = rw no-bytes (omega arith);
+  small = h;
+  puts = rw no-bytes (sym (splice-none d size));
+}
+
+-- a list has one text more
+more : (limit : ℕ) (t : Text) (count size : ℕ) (d e : Text) (end : ℕ) → size + length (textBytes t) ≤ limit → e ≡ splice d size (textBytes t) → end ≡ size + length (textBytes t) → Grows limit (t ∷ []) count size d (count + 1) end e
+more limit t count size d e end h p q = record {
+  count-is = refl;
+  size-is = rw (one-bytes t) q;
+  small = omega arith;
+  puts = rw (one-bytes t) p;
+}
+
+-- nothing is new
+stays-new : (limit n : ℕ) (l : List Text) → unlessRefused n l ≡ [] → (count size countAfter sizeAfter : ℕ) (d : Text) → countAfter ≡ count → sizeAfter ≡ size → size ≤ limit → Grows limit (unlessRefused n l) count size d countAfter sizeAfter d
+stays-new limit n l e count size countAfter sizeAfter d p q h = rw (e, p, q) (stays limit count size d h)
+
+-- a spec, for a reason that was found
+module _ (t : Text) (so : Lists) (d : Text) (n : ℕ) (en : n ≡ specReason (so .specs) (so .«spec_bytes») t) (room : Room specListBytes (so .«spec_bytes») d) where
+  pub spec-refused : (n ≡ 0 → ⊥) → (r : Lists) → r ≡ stopped so n → SpecAdds t so r d d
+  spec-refused h r e = rw e (record {
+    reason-is = en;
+    grows = stays-new specListBytes n (t ∷ []) (refused-none n (t ∷ []) h) (so .specs) (so .«spec_bytes») (so .specs) (so .«spec_bytes») d refl refl (room .small);
+    names-stay = refl;
+    bytes-stay = refl;
+  })
+
+  module _ (z : n ≡ 0) where
+    pub spec-room : so .«spec_bytes» + length (textBytes t) ≤ length d
+    spec-room = omega (arith, spec-passes (so .specs) (so .«spec_bytes») t (sym en ∙ z) .fits, room .long)
+
+    pub spec-counts : Fits w64 (so .specs + 1)
+    spec-counts = omega (arith, spec-passes (so .specs) (so .«spec_bytes») t (sym en ∙ z) .few)
+
+    pub spec-added : (e : Text) (end : ℕ) → e ≡ splice d (so .«spec_bytes») (textBytes t) → end ≡ so .«spec_bytes» + length (textBytes t) → SpecAdds t so (record { reason = 0; specs = so .specs + 1; «spec_bytes» = end; names = so .names; «name_bytes» = so .«name_bytes» }) d e
+    spec-added e end p q = record {
+      reason-is = sym z ∙ en;
+      grows = more specListBytes t (so .specs) (so .«spec_bytes») d e end (spec-passes (so .specs) (so .«spec_bytes») t (sym en ∙ z) .fits) p q;
+      names-stay = refl;
+      bytes-stay = refl;
+    }
+
+-- a name, for a reason that was found
+module _ (t : Text) (so : Lists) (d : Text) (n : ℕ) (en : n ≡ nameReason (so .names) (so .«name_bytes») t) (room : Room itemListBytes (so .«name_bytes») d) where
+  pub name-refused : (n ≡ 0 → ⊥) → (r : Lists) → r ≡ stopped so n → NameAdds t so r d d
+  name-refused h r e = rw e (record {
+    reason-is = en;
+    grows = stays-new itemListBytes n (t ∷ []) (refused-none n (t ∷ []) h) (so .names) (so .«name_bytes») (so .names) (so .«name_bytes») d refl refl (room .small);
+    specs-stay = refl;
+    bytes-stay = refl;
+  })
+
+  module _ (z : n ≡ 0) where
+    pub name-room : so .«name_bytes» + length (textBytes t) ≤ length d
+    name-room = omega (arith, name-passes (so .names) (so .«name_bytes») t (sym en ∙ z) .fits, room .long)
+
+    pub name-counts : Fits w64 (so .names + 1)
+    name-counts = omega (arith, name-passes (so .names) (so .«name_bytes») t (sym en ∙ z) .few)
+
+    pub name-added : (e : Text) (end : ℕ) → e ≡ splice d (so .«name_bytes») (textBytes t) → end ≡ so .«name_bytes» + length (textBytes t) → NameAdds t so (record { reason = 0; specs = so .specs; «spec_bytes» = so .«spec_bytes»; names = so .names + 1; «name_bytes» = end }) d e
+    name-added e end p q = record {
+      reason-is = sym z ∙ en;
+      grows = more itemListBytes t (so .names) (so .«name_bytes») d e end (name-passes (so .names) (so .«name_bytes») t (sym en ∙ z) .fits) p q;
+      specs-stay = refl;
+      bytes-stay = refl;
+    }
+
+-- what a line holds, from the answer about it
+module _ (line : Text) (a : Line) (tells : Tells line a) (so : Lists) (d₁ d₂ : Text) (room₁ : Room specListBytes (so .«spec_bytes») d₁) (room₂ : Room itemListBytes (so .«name_bytes») d₂) where
+  -- a line that adds nothing, for a reason or for none
+  stays-both : (h : Held) (n : ℕ) → specsIn h ≡ [] → namesIn h ≡ [] → n ≡ reasonOf (so .specs) (so .«spec_bytes») (so .names) (so .«name_bytes») h → LineAdds h so (stopped so n) d₁ d₂ d₁ d₂
+  stays-both h n p q e = record {
+    reason-is = e;
+    specs-grow = rw p (stays-new specListBytes n [] (none-new n) (so .specs) (so .«spec_bytes») (so .specs) (so .«spec_bytes») d₁ refl refl (room₁ .small));
+    names-grow = rw q (stays-new itemListBytes n [] (none-new n) (so .names) (so .«name_bytes») (so .names) (so .«name_bytes») d₂ refl refl (room₂ .small));
+  }
+
+  module _ (r : Lists) where
+    pub line-nothing : a ≡ Nothing → r ≡ stopped so 0 → LineAdds (heldIn line) so r d₁ d₂ d₁ d₂
+    line-nothing e f = let m : nothing ≡ heldIn line = rw e at (tells .means) in rw (f, ← m) (stays-both nothing 0 refl refl refl)
+
+    pub line-unknown : a ≡ Unknown → r ≡ stopped so 102 → LineAdds (heldIn line) so r d₁ d₂ d₁ d₂
+    line-unknown e f = let m : unknown ≡ heldIn line = rw e at (tells .means) in rw (f, ← m) (stays-both unknown 102 refl refl refl)
+
+    module _ (at : ℕ) where
+      pub line-push : a ≡ Push at → r ≡ stopped so 101 → LineAdds (heldIn line) so r d₁ d₂ d₁ d₂
+      line-push e f = let m : push (drop at line) ≡ heldIn line = rw e at (tells .means) in rw (f, ← m) (stays-both (push (drop at line)) 101 refl refl refl)
+
+      pub line-fetch : a ≡ Fetch at → (e : Text) → SpecAdds (take (length line - at) (drop at line)) so r d₁ e → LineAdds (heldIn line) so r d₁ d₂ e d₂
+      line-fetch f e adds =
+          let m : fetch (drop at line) ≡ heldIn line = rw f at (tells .means) in
+          let x : SpecAdds (drop at line) so r d₁ e = rw (rest-part line at) at adds in
+          rw (← m) (record {
+            reason-is = x .reason-is;
+            specs-grow = x .grows;
+            names-grow = stays-new itemListBytes (r .reason) [] (none-new (r .reason)) (so .names) (so .«name_bytes») (r .names) (r .«name_bytes») d₂ (x .names-stay) (x .bytes-stay) (room₂ .small);
+          })
+
+      pub line-name : a ≡ Name at → (e : Text) → NameAdds (take (length line - at) (drop at line)) so r d₂ e → LineAdds (heldIn line) so r d₁ d₂ d₁ e
+      line-name f e adds =
+          let m : name (drop at line) ≡ heldIn line = rw f at (tells .means) in
+          let x : NameAdds (drop at line) so r d₂ e = rw (rest-part line at) at adds in
+          rw (← m) (record {
+            reason-is = x .reason-is;
+            specs-grow = stays-new specListBytes (r .reason) [] (none-new (r .reason)) (so .specs) (so .«spec_bytes») (r .specs) (r .«spec_bytes») d₁ (x .specs-stay) (x .bytes-stay) (room₁ .small);
+            names-grow = x .grows;
+          })
+
+  -- the place stands within the line
+  pub fetch-within : (at : ℕ) → a ≡ Fetch at → at ≤ length line
+  fetch-within at e = rw e at (tells .within)
+
+  pub name-within : (at : ℕ) → a ≡ Name at → at ≤ length line
+  name-within at e = rw e at (tells .within)

@@ -1,0 +1,53 @@
+-- The branches of the questions about a line. Assumes nothing.
+use Prim.Native.Nat.{ℕ, _≤_}
+use mathlib.Core.Path.{_≡_, sym, ap, _∙_}
+use mathlib.Core.Bool.{Bool, true, false}
+use native.Mathlib.Omega.{arith}
+use borrow.Author.Tests.{eq-eqb, ne-eqb}
+use lib.Dec.{eqb}
+use lib.ListN.{length, drop, length-append}
+use Rattle.meaning.specs.Bytes.{Text, bytes, every, begins}
+use Rattle.promises.proofs.Captures.{begins-is}
+use Rattle.text_lists.specs.declared.line.Line.the-variants.{Nothing, Fetch, Push, Name, Unknown}
+use Rattle.text_lists.specs.Line.{blankByte, heldIn, Tells}
+
+-- a space, and any other byte
+pub blank-space : (b : ℕ) → b ≡ 32 → true ≡ blankByte b
+blank-space b e = rw (eq-eqb b 32 e)
+
+pub blank-tab : (b : ℕ) → (b ≡ 32 → ⊥) → eqb b 9 ≡ blankByte b
+blank-tab b n = rw (ne-eqb b 32 n)
+
+-- what a line begins with is no longer than the line
+word-within : (p t : Text) (b : Bool) → b ≡ begins p t → b ≡ true → length p ≤ length t
+word-within p t b e f = omega (arith, ap length (begins-is p t (sym e ∙ f)), length-append p (drop (length p) t))
+
+-- each kind of line
+module _ (t : Text) (a : Bool) (ea : a ≡ every blankByte t) where
+  pub line-blank : a ≡ true → Tells t Nothing
+  unfolding heldIn
+  line-blank e = record { means = rw (sym ea ∙ e); within = _ }
+
+  module _ (na : a ≡ false) (b : Bool) (eb : b ≡ begins (bytes "#") t) where
+    pub line-comment : b ≡ true → Tells t Nothing
+    unfolding heldIn
+    line-comment e = record { means = rw (sym ea ∙ na, sym eb ∙ e); within = _ }
+
+    module _ (nb : b ≡ false) (f : Bool) (ef : f ≡ begins (bytes "fetch ") t) where
+      pub line-fetch : f ≡ true → Tells t (Fetch 6)
+      unfolding heldIn
+      line-fetch e = record { means = rw (sym ea ∙ na, sym eb ∙ nb, sym ef ∙ e); within = word-within (bytes "fetch ") t f ef e }
+
+      module _ (nf : f ≡ false) (p : Bool) (ep : p ≡ begins (bytes "push ") t) where
+        pub line-push : p ≡ true → Tells t (Push 5)
+        unfolding heldIn
+        line-push e = record { means = rw (sym ea ∙ na, sym eb ∙ nb, sym ef ∙ nf, sym ep ∙ e); within = word-within (bytes "push ") t p ep e }
+
+        module _ (np : p ≡ false) (n : Bool) (en : n ≡ begins (bytes "name ") t) where
+          pub line-name : n ≡ true → Tells t (Name 5)
+          unfolding heldIn
+          line-name e = record { means = rw (sym ea ∙ na, sym eb ∙ nb, sym ef ∙ nf, sym ep ∙ np, sym en ∙ e); within = word-within (bytes "name ") t n en e }
+
+          pub line-unknown : n ≡ false → Tells t Unknown
+          unfolding heldIn
+          line-unknown e = record { means = rw (sym ea ∙ na, sym eb ∙ nb, sym ef ∙ nf, sym ep ∙ np, sym en ∙ e); within = _ }

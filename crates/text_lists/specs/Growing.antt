@@ -1,0 +1,65 @@
+-- Two lists that grow in their buffers, line by line.
+use Prim.Native.Nat.{ℕ, zero, suc, _+_, _≤_}
+use mathlib.Core.Path.{_≡_}
+use mathlib.Core.List.{List, [], _∷_}
+use lib.ListN.{length}
+use Rattle.meaning.specs.Bytes.{Text}
+use Rattle.meaning.specs.Limits.{specListBytes, itemListBytes}
+use Rattle.meaning.specs.Number.{recordBytes}
+use Rattle.buffer.specs.Splice.{splice}
+use Rattle.text_lists.specs.Line.{Held}
+use Rattle.text_lists.specs.declared.Lists.{Lists}
+use Rattle.text_lists.specs.declared.Gathered.{Gathered}
+use Rattle.text_lists.specs.Gather.{specReason, nameReason, reasonOf, specsIn, namesIn, Gathering}
+
+-- a list within its limit, and a buffer that a list at its limit fits
+pub record Room (limit size : ℕ) (buffer : Text) : Type 0 where
+  pub small : size ≤ limit
+  pub long : limit ≤ length buffer
+
+-- nothing is added, for a reason or for none
+abbrev pub stopped : Lists → ℕ → Lists
+stopped so n = record { reason = n; specs = so .specs; «spec_bytes» = so .«spec_bytes»; names = so .names; «name_bytes» = so .«name_bytes» }
+
+-- what is added unless there is a reason not to
+abbrev pub unlessRefused : ℕ → List Text → List Text
+unlessRefused zero l = l
+unlessRefused (suc n) l = []
+
+-- a list grew by some texts, from its end on, within its limit
+pub record Grows (limit : ℕ) (new : List Text) (count size : ℕ) (entry : Text) (countAfter sizeAfter : ℕ) (exit : Text) : Type 0 where
+  pub count-is : countAfter ≡ count + length new
+  pub size-is : sizeAfter ≡ size + length (recordBytes new)
+  pub small : sizeAfter ≤ limit
+  pub puts : exit ≡ splice entry size (recordBytes new)
+
+-- a spec was added or refused, and the names stay
+pub record SpecAdds (t : Text) (so after : Lists) (entry exit : Text) : Type 0 where
+  pub reason-is : after .reason ≡ specReason (so .specs) (so .«spec_bytes») t
+  pub grows : Grows specListBytes (unlessRefused (after .reason) (t ∷ [])) (so .specs) (so .«spec_bytes») entry (after .specs) (after .«spec_bytes») exit
+  pub names-stay : after .names ≡ so .names
+  pub bytes-stay : after .«name_bytes» ≡ so .«name_bytes»
+
+-- a name was added or refused, and the specs stay
+pub record NameAdds (t : Text) (so after : Lists) (entry exit : Text) : Type 0 where
+  pub reason-is : after .reason ≡ nameReason (so .names) (so .«name_bytes») t
+  pub grows : Grows itemListBytes (unlessRefused (after .reason) (t ∷ [])) (so .names) (so .«name_bytes») entry (after .names) (after .«name_bytes») exit
+  pub specs-stay : after .specs ≡ so .specs
+  pub bytes-stay : after .«spec_bytes» ≡ so .«spec_bytes»
+
+-- what a line holds was added or refused
+pub record LineAdds (h : Held) (so after : Lists) (specs items specsAfter itemsAfter : Text) : Type 0 where
+  pub reason-is : after .reason ≡ reasonOf (so .specs) (so .«spec_bytes») (so .names) (so .«name_bytes») h
+  pub specs-grow : Grows specListBytes (unlessRefused (after .reason) (specsIn h)) (so .specs) (so .«spec_bytes») specs (after .specs) (after .«spec_bytes») specsAfter
+  pub names-grow : Grows itemListBytes (unlessRefused (after .reason) (namesIn h)) (so .names) (so .«name_bytes») items (after .names) (after .«name_bytes») itemsAfter
+
+-- the numbers say what was gathered, and the buffers hold the two lists at their start, with nothing else written
+pub record Gathers (g : Gathering) (specs items specsAfter itemsAfter : Text) (r : Gathered) : Type 0 where
+  pub line-is : r .line ≡ g .line
+  pub reason-is : r .reason ≡ g .reason
+  pub specs-size : r .specs ≡ length (recordBytes (g .specs))
+  pub items-size : r .items ≡ length (recordBytes (g .names))
+  pub specs-put : specsAfter ≡ splice specs 0 (recordBytes (g .specs))
+  pub items-put : itemsAfter ≡ splice items 0 (recordBytes (g .names))
+  pub specs-small : r .specs ≤ specListBytes
+  pub items-small : r .items ≤ itemListBytes

@@ -1,0 +1,196 @@
+//! The lists that the lines of a text give: the specs of its fetch lines as a spec list, its names as an item list.
+ghost use mathlib.Core.Path.{_≡_};
+ghost use Prim.Native.Nat.{_+_, _≤_};
+ghost use lib.ListN.{length};
+ghost use Rattle.meaning.specs.Limits.{specListBytes, programBytes, itemListBytes};
+ghost use Rattle.meaning.specs.Number.{textBytes};
+ghost use Rattle.buffer.specs.Splice.{splice};
+ghost use Rattle.text_lists.specs.Line.{heldIn};
+ghost use Rattle.text_lists.specs.Gather.{roomReason, specReason, nameReason, gathered};
+ghost use Rattle.text_lists.specs.Growing.{stopped, Room, SpecAdds, NameAdds, LineAdds, Gathers};
+use limits::ITEM_COUNT;
+use limits::ITEM_LIST_BYTES;
+use limits::NAME_BYTES;
+use limits::SPEC_COUNT;
+use limits::SPEC_LIST_BYTES;
+use parse::Parsed;
+
+pub mod line;
+
+use line::Line;
+use line::classify;
+
+// Reasons of our own: only a fetch is listed; a line is none of the known kinds.
+pub const PUSH: u64 = 101;
+
+pub const UNKNOWN: u64 = 102;
+
+// What the lines gave: the number of the first line that is refused, counting from 1, and the reason, or 0 and 0; and how many bytes the
+// spec list and the item list have.
+pub struct Gathered {
+    pub line: usize,
+    pub reason: u64,
+    pub specs: usize,
+    pub items: usize,
+}
+
+// The two lists so far: the reason to refuse the last line, or 0; how many specs there are, and how many bytes their list has; the same
+// of the names.
+struct Lists {
+    reason: u64,
+    specs: usize,
+    spec_bytes: usize,
+    names: usize,
+    name_bytes: usize,
+}
+
+// 12 where a list of `size` bytes, of which it may have `limit`, has no room for a text.
+fn room_reason(limit: usize, size: usize, t: &[u8]) -> u64
+    requires { ⌜ (size ≤ limit) × (length (now t) ≤ programBytes) ⌝ }
+    ensures { λ r. ⌜ r ≡ roomReason limit size (now (t .entry)) ⌝ }
+{
+    let n = t.len();
+    if limit - size < number::size(n) + n {
+        return 12;
+    }
+    0
+}
+
+// Why a spec is refused that so many come before, in a list of `size` bytes, or 0.
+fn spec_reason(count: usize, size: usize, t: &[u8]) -> u64
+    requires { ⌜ (size ≤ specListBytes) × (length (now t) ≤ programBytes) ⌝ }
+    ensures { λ r. ⌜ r ≡ specReason count size (now (t .entry)) ⌝ }
+{
+    if SPEC_COUNT <= count {
+        return 14;
+    }
+    match parse::parse(0, t) {
+        Parsed::Spec(_) => room_reason(SPEC_LIST_BYTES, size, t),
+        Parsed::Refused(n) => n,
+    }
+}
+
+// Why a name is refused that so many come before, in a list of `size` bytes, or 0.
+fn name_reason(count: usize, size: usize, t: &[u8]) -> u64
+    requires { ⌜ (size ≤ itemListBytes) × (length (now t) ≤ programBytes) ⌝ }
+    ensures { λ r. ⌜ r ≡ nameReason count size (now (t .entry)) ⌝ }
+{
+    if ITEM_COUNT <= count {
+        return 14;
+    }
+    if NAME_BYTES < t.len() {
+        return 15;
+    }
+    room_reason(ITEM_LIST_BYTES, size, t)
+}
+
+// Writes a text with its length before it, and answers the place after it.
+fn put_text(out: &mut [u8], at: usize, t: &[u8]) -> usize
+    requires { ⌜ (at + length (textBytes (now t)) ≤ length (now out)) × (length (now t) ≤ programBytes) ⌝ }
+    ensures { λ r. ⌜ (now (out .exit) ≡ splice (now (out .entry)) at (textBytes (now (t .entry)))) × (r ≡ at + length (textBytes (now (t .entry)))) ⌝ }
+{
+    let n = t.len();
+    let i = number::put(out, at, n);
+    buffer::put(out, i, t)
+}
+
+// Nothing is added, for a reason or for none.
+fn stopped(so: Lists, reason: u64) -> Lists
+    ensures { λ r. ⌜ r ≡ stopped so reason ⌝ }
+{
+    Lists {
+        reason,
+        specs: so.specs,
+        spec_bytes: so.spec_bytes,
+        names: so.names,
+        name_bytes: so.name_bytes,
+    }
+}
+
+// Adds a spec, unless it is refused.
+fn add_spec(t: &[u8], specs: &mut [u8], so: Lists) -> Lists
+    requires { ⌜ (length (now t) ≤ programBytes) × Room specListBytes (so .«spec_bytes») (now specs) ⌝ }
+    ensures { λ r. ⌜ SpecAdds (now (t .entry)) so r (now (specs .entry)) (now (specs .exit)) ⌝ }
+{
+    let reason = spec_reason(so.specs, so.spec_bytes, t);
+    if reason != 0 {
+        return stopped(so, reason);
+    }
+    let end = put_text(specs, so.spec_bytes, t);
+    Lists {
+        reason: 0,
+        specs: so.specs + 1,
+        spec_bytes: end,
+        names: so.names,
+        name_bytes: so.name_bytes,
+    }
+}
+
+// Adds a name, unless it is refused.
+fn add_name(t: &[u8], items: &mut [u8], so: Lists) -> Lists
+    requires { ⌜ (length (now t) ≤ programBytes) × Room itemListBytes (so .«name_bytes») (now items) ⌝ }
+    ensures { λ r. ⌜ NameAdds (now (t .entry)) so r (now (items .entry)) (now (items .exit)) ⌝ }
+{
+    let reason = name_reason(so.names, so.name_bytes, t);
+    if reason != 0 {
+        return stopped(so, reason);
+    }
+    let end = put_text(items, so.name_bytes, t);
+    Lists {
+        reason: 0,
+        specs: so.specs,
+        spec_bytes: so.spec_bytes,
+        names: so.names + 1,
+        name_bytes: end,
+    }
+}
+
+// Adds what a line holds, unless it is refused.
+fn add_line(line: &[u8], specs: &mut [u8], items: &mut [u8], so: Lists) -> Lists
+    requires { ⌜ (length (now line) ≤ programBytes) × Room specListBytes (so .«spec_bytes») (now specs) × Room itemListBytes (so .«name_bytes») (now items) ⌝ }
+    ensures { λ r. ⌜ LineAdds (heldIn (now (line .entry))) so r (now (specs .entry)) (now (items .entry)) (now (specs .exit)) (now (items .exit)) ⌝ }
+{
+    match classify(line) {
+        Line::Nothing => stopped(so, 0),
+        Line::Fetch(start) => add_spec(&line[start..], specs, so),
+        Line::Push(_) => stopped(so, PUSH),
+        Line::Name(start) => add_name(&line[start..], items, so),
+        Line::Unknown => stopped(so, UNKNOWN),
+    }
+}
+
+// The lists that the lines of a text give, written at the start of the buffers; where a line is refused, those of the lines before it.
+pub fn gather(input: &[u8], specs: &mut [u8], items: &mut [u8]) -> Gathered
+    requires { ⌜ (length (now input) ≤ programBytes) × (specListBytes ≤ length (now specs)) × (itemListBytes ≤ length (now items)) ⌝ }
+    ensures { λ r. ⌜ Gathers (gathered (now (input .entry))) (now (specs .entry)) (now (items .entry)) (now (specs .exit)) (now (items .exit)) r ⌝ }
+{
+    let mut at = 0;
+    let mut line = 1;
+    let mut so = Lists {
+        reason: 0,
+        specs: 0,
+        spec_bytes: 0,
+        names: 0,
+        name_bytes: 0,
+    };
+    while at < input.len() {
+        let end = text::find_from(input, at, b'\n');
+        so = add_line(&input[at..end], specs, items, so);
+        if so.reason != 0 {
+            return Gathered {
+                line,
+                reason: so.reason,
+                specs: so.spec_bytes,
+                items: so.name_bytes,
+            };
+        }
+        at = end + 1;
+        line += 1;
+    }
+    Gathered {
+        line: 0,
+        reason: 0,
+        specs: so.spec_bytes,
+        items: so.name_bytes,
+    }
+}

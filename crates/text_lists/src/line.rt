@@ -1,0 +1,59 @@
+// A line of text as a person writes it: nothing, a spec for fetch or push, a name, or none of these.
+ghost use mathlib.Core.Path.{_≡_};
+ghost use Rattle.meaning.specs.Bytes.{every};
+ghost use Rattle.text_lists.specs.Line.{blankByte, Tells};
+
+// What a line holds; a spec or a name is the rest of its line from a place on.
+pub enum Line {
+    Nothing,
+    Fetch(usize),
+    Push(usize),
+    Name(usize),
+    Unknown,
+}
+
+// A space or a tab.
+fn is_blank(b: u8) -> bool
+    ensures { λ r. ⌜ r ≡ blankByte b ⌝ }
+{
+    if b == b' ' {
+        return true;
+    }
+    b == b'\t'
+}
+
+// The line has nothing but spaces and tabs.
+fn all_blank(line: &[u8]) -> bool
+    ensures { λ r. ⌜ r ≡ every blankByte (now (line .entry)) ⌝ }
+{
+    let mut i = 0;
+    while i < line.len() {
+        if !is_blank(line[i]) {
+            return false;
+        }
+        i += 1;
+    }
+    true
+}
+
+// What a line holds.
+pub fn classify(line: &[u8]) -> Line
+    ensures { λ r. ⌜ Tells (now (line .entry)) r ⌝ }
+{
+    if all_blank(line) {
+        return Line::Nothing;
+    }
+    if compare::begins(line, b"#") {
+        return Line::Nothing;
+    }
+    if compare::begins(line, b"fetch ") {
+        return Line::Fetch(6);
+    }
+    if compare::begins(line, b"push ") {
+        return Line::Push(5);
+    }
+    if compare::begins(line, b"name ") {
+        return Line::Name(5);
+    }
+    Line::Unknown
+}
