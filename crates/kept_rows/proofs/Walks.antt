@@ -2,7 +2,7 @@
 -- nothing.
 use mathlib.Core.Path.{_≡_, refl, sym, ap, _∙_}
 use mathlib.Core.Bool.{Bool, true, false, cond}
-use mathlib.Core.List.{List, [], _∷_, _++_, append-assoc}
+use mathlib.Core.List.{List, [], _∷_, _++_}
 use Prim.Native.Nat.{ℕ, suc, _+_, _*_, _≤_}
 use native.Mathlib.Nat.{zero-add}
 use native.Mathlib.Omega.{arith}
@@ -14,6 +14,7 @@ use Rattle.meaning.specs.Limits.{rowListBytes, largestNumber}
 use Rattle.meaning.specs.Spec.{accepted}
 use Rattle.meaning.specs.Rows as meaning
 use Rattle.meaning.specs.Validation.{isKept, fixOf, fixBytes}
+use Rattle.promises.proofs.Laws.{each-append}
 use Rattle.buffer.specs.Splice.{splice}
 use Rattle.buffer.proofs.Writing.{Writing, writing-starts, writing-room, writing-more, written-place, written-whole}
 use Rattle.parse.specs.Places.{sideMeant, Within}
@@ -31,10 +32,6 @@ use Rattle.kept_rows.specs.Rows.{keptBytes, fixNumbers, fixFor, rowFix}
 use Rattle.kept_rows.proofs.Fixes.{fix-shorter}
 
 -- what the rows give, row by row
-
-each-append : {A B : Type 0} (l m : List A) (f : A → List B) → each (l ++ m) f ≡ each l f ++ each m f
-each-append [] m f = refl
-each-append (x ∷ l) m f = ap (λ k. f x ++ k) (each-append l m f) ∙ sym (append-assoc (f x) (each l f) (each m f))
 
 kept-each : (l : List meaning.Row) → meaning.rowListOf (keep isKept l) ≡ each l keptBytes
 unfolding meaning.rowListOf keptBytes

@@ -9,7 +9,7 @@ use Rattle.meaning.specs.Spec.{Spec, isNegative}
 use Rattle.meaning.specs.Rows.{Row, rowBytes, rowListOf}
 use Rattle.meaning.specs.Match.{formOf, objectSource, whole, Mapped, unmapped, mapped, mapsTo}
 use Rattle.meaning.specs.Listing.{Ends, nameRow, nameRows, groupRows, objectRow, objectRows, excludes, notExcluded, forwardRows, reverseRows}
-use Rattle.search.proofs.Given.{each-append}
+use Rattle.promises.proofs.Laws.{each-append}
 use Rattle.match_row.specs.Pairs.{endsIn, rowUnless, itemBytes, objectBytes}
 use Rattle.match_group.specs.Listing.{eachFrom, listingRows, itemsFrom, bytesOfSpec, listingBytes}
 
@@ -27,7 +27,7 @@ kept test l = rowListOf (keep test l)
 
 kept-append : (test : Row → Bool) (l m : List Row) → kept test (l ++ m) ≡ kept test l ++ kept test m
 unfolding rowListOf
-kept-append test l m = rw (keep-append test l m) (each-append rowBytes (keep test l) (keep test m))
+kept-append test l m = rw (keep-append test l m) (each-append (keep test l) (keep test m) rowBytes)
 
 kept-none : (test : Row → Bool) → kept test [] ≡ []
 unfolding rowListOf

@@ -1,7 +1,7 @@
 -- What the hits of a listing give is what its specs give, and each of them is good. Assumes nothing.
 use mathlib.Core.Path.{_≡_, refl, sym, ap, _∙_}
 use mathlib.Core.Bool.{Bool, true, false, cond}
-use mathlib.Core.List.{List, [], _∷_, _++_, append-nil, append-assoc}
+use mathlib.Core.List.{List, [], _∷_, _++_, append-nil}
 use Prim.Native.Nat.{ℕ, zero, suc, _+_, _/_, _%_, _≤_, _<_}
 use native.Mathlib.Omega.{arith}
 use native.Mathlib.Numerals.{add-one}
@@ -10,6 +10,7 @@ use lib.Dec.{eqb}
 use lib.ListN.{length, getD}
 use Rattle.meaning.specs.Bytes.{Text, each}
 use Rattle.meaning.specs.Limits.{itemCount}
+use Rattle.promises.proofs.Laws.{each-append}
 use Rattle.parse.specs.Places.{partAt}
 use Rattle.filter.specs.Filters.{nameAt}
 use Rattle.match_row.specs.Pairs.{objectBytes}
@@ -17,10 +18,6 @@ use Rattle.match_row.proofs.Fields.{pair-stands, object-stands}
 use Rattle.search.specs.Hits.{across, specAt, pairGives, specGives, groupGives, objectsGive, hitStride, hitOf, hitIf, pairHits, specHits, groupHits, objectHits, hitBytes}
 use Rattle.search.specs.Noting.{Good, AllGood}
 use Rattle.search.proofs.Across.{across-few}
-
-pub each-append : {A B : Type 0} (f : A → List B) (l m : List A) → each (l ++ m) f ≡ each l f ++ each m f
-each-append f [] m = refl
-each-append f (x ∷ l) m = rw (each-append f l m) (sym (append-assoc (f x) (each l f) (each m f)))
 
 -- some hits give a text, and each of them is good
 pub record Gives (f : ℕ → Text) (good : ℕ → Type 0) (codes : List ℕ) (t : Text) : Type 0 where
@@ -39,7 +36,7 @@ module _ (f : ℕ → Text) (good : ℕ → Type 0) where
   pub gives-both : (a b : List ℕ) (s t : Text) → Gives f good a s → Gives f good b t → Gives f good (a ++ b) (s ++ t)
   gives-both a b s t g h =
       record {
-        gives = each-append f a b ∙ ap (λ (x : Text). x ++ each b f) (g .gives) ∙ ap (λ (x : Text). s ++ x) (h .gives);
+        gives = each-append a b f ∙ ap (λ (x : Text). x ++ each b f) (g .gives) ∙ ap (λ (x : Text). s ++ x) (h .gives);
         are = good-both a b (g .are) (h .are);
       }
 

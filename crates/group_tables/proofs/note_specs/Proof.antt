@@ -419,4 +419,4 @@ note-specs-spec 𝓤 H 𝓜 𝓖 𝓡 =
     (tables 𝓤 H 𝓜 𝓡 code.env .C) (tables 𝓤 H 𝓜 𝓡 code.env .Λ) #group-tables·note-specs code.function (code.unfolded 𝓤 H 𝓜 𝓡)
     (self-meets 𝓤 H (𝓖 .A) (givenOf 𝓤 H 𝓜 𝓖) (𝓜 .mem) (𝓡 .run) (tablesOf 𝓤 H 𝓜 (tables 𝓤 H 𝓜 𝓡 code.env))
     (cited 𝓤 H (SpecAt 𝓤 H (𝓖 .A) (𝓜 .mem) (𝓡 .run)) 𝓜 𝓡 code.env #spec-list·table·spec-at spec-at-def.routine code.calls-spec-list·table·spec-at (spec-at-thm.met 𝓤 H 𝓜 𝓖 𝓡))
-    (cited 𝓤 H (Note 𝓤 H (𝓖 .A) (𝓜 .mem) (𝓡 .run)) 𝓜 𝓡 code.env #group-tables·note note-def.routine code.calls-noted·note (note-thm.met 𝓤 H 𝓜 𝓖 𝓡)))
+    (cited 𝓤 H (Note 𝓤 H (𝓖 .A) (𝓜 .mem) (𝓡 .run)) 𝓜 𝓡 code.env #group-tables·note note-def.routine code.calls-group-tables·note (note-thm.met 𝓤 H 𝓜 𝓖 𝓡)))
