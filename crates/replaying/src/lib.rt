@@ -115,11 +115,9 @@ fn differing(kind: Kind, t: Tally, more: bool, words: &[u8]) -> Tally
     ensures { λ r. ⌜ (r .read ≤ t .read + 1) × (r .differ ≤ r .read) ⌝ }
 {
     name(kind, t.read, t.differ, words);
-    Tally {
-        read: t.read + 1,
-        differ: t.differ + 1,
-        more,
-    }
+    let read = t.read + 1;
+    let differ = t.differ + 1;
+    Tally { read, differ, more }
 }
 
 // The tally after a turn.
