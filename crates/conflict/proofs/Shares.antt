@@ -23,7 +23,7 @@ use Rattle.buffer.proofs.Writing.{Writing, writing-starts, writing-room, writin
 use Rattle.number.proofs.Bytes.{bytes-few}
 use Rattle.parse.specs.Places.{partAt}
 use Rattle.row_fields.specs.declared.Stretch.{Stretch}
-use Rattle.row_fields.specs.Stages.{destinationIn, Spells}
+use Rattle.row_fields.specs.Stages.{destinationIn, StretchSpells}
 use Rattle.keys.specs.declared.key.Key.the-variants.{Source}
 use Rattle.order.specs.Sorting.{firstsBy}
 use Rattle.keys.specs.Keys.{rowAt, sameAt}
@@ -190,7 +190,7 @@ module _ (s : Text) (l : List ℕ) (run : OneRun s l) (count : ℕ) (ec : count 
   listed h = part-pieces (rowsAt s l) (destinationAt s (getD l 0 0)) (omega (arith, seen)) ∙ rw (sources-are s l run, ← firsts-rows s l, firsts-first s l)
 
 -- the destination of the row at a place, by its own place
-module _ (s : Text) (p : ℕ) (f : Stretch) (w : Spells s (destinationIn (readFront (drop p s))) f) where
+module _ (s : Text) (p : ℕ) (f : Stretch) (w : StretchSpells s (destinationIn (readFront (drop p s))) f) where
   destination-is : destinationAt s p ≡ partAt s (f .at) (f .len)
   unfolding destinationAt
   destination-is = sym (w .is ∙ destination-there s p)

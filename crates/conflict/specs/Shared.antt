@@ -9,7 +9,7 @@ use Rattle.meaning.specs.Number.{numberBytes, textBytes}
 use Rattle.meaning.specs.Rows.{Row}
 use Rattle.meaning.specs.Validation.{rowsOnto, inConflict, conflictOn, conflictBytes}
 use Rattle.keys.specs.declared.key.Key.the-variants.{Source}
-use Rattle.order.specs.Sorting.{Ascending, heads, firstsBy}
+use Rattle.order.specs.Sorting.{Increasing, heads, firstsBy}
 use Rattle.keys.specs.Keys.{rowAt, sameAt}
 use Rattle.conflict.specs.declared.sources.HeadsSize.{HeadsSize}
 use Rattle.conflict.specs.Sizes.{conflictSourceMost}
@@ -26,7 +26,7 @@ destinationAt s p = orEmpty (rowAt s p .destination)
 -- places of rows that share a destination, in place order
 pub record OneRun (s : Text) (l : List ℕ) : Type 0 where
   pub shared : rowsOnto (rowsAt s l) (destinationAt s (getD l 0 0)) ≡ rowsAt s l
-  pub ascends : Ascending l
+  pub ascends : Increasing l
 
 -- the bytes of the conflict on a destination, if it is in conflict
 unfoldable pub conflictPart : List Row → Text → Text

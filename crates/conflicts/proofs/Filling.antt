@@ -21,9 +21,10 @@ use Rattle.row_list.specs.declared.RowStep.{RowStep}
 use Rattle.row_list.specs.declared.RowStep.the-variants.{Row, End, Refused}
 use Rattle.row_fields.specs.Fields.{rowMeant}
 use Rattle.row_list.specs.Rows.{rowStepAt, RowTaken, RowSays}
-use Rattle.order.specs.Sorting.{Above, Ascending}
+use Rattle.order.specs.Sorting.{Above, Increasing}
 use Rattle.keys.specs.Keys.{rowOr, rowAt}
-use Rattle.conflicts.specs.Listed.{rowsIn, RowsRead, InList}
+use Rattle.row_list.specs.Lists.{rowsIn, RowsRead}
+use Rattle.conflicts.specs.ConflictBytes.{InList}
 use Rattle.conflict.specs.Shared.{rowsAt}
 use Rattle.conflicts.specs.Indexed.{hasDestination, Given, Indexed, Stored}
 use Rattle.conflicts.proofs.Walks.{At, at-start, next-row, next-destination, moves-on, end-row, refused-row, taken}
@@ -72,7 +73,7 @@ above-put : (x at : ℕ) (l : List ℕ) → x < at → Above x l → Above x (l 
 above-put x at [] h a = (h, tt)
 above-put x at (y ∷ l) h a = (a .0, above-put x at l h (a .1))
 
-ascending-put : (at : ℕ) (l : List ℕ) → Under at l → Ascending l → Ascending (l ++ (at ∷ []))
+ascending-put : (at : ℕ) (l : List ℕ) → Under at l → Increasing l → Increasing (l ++ (at ∷ []))
 ascending-put at [] u a = (tt, tt)
 ascending-put at (x ∷ l) u a = (above-put x at l (u .0) (a .0), ascending-put at l (u .1) (a .1))
 
@@ -117,7 +118,7 @@ pub record Filling (specs : ℕ) (s : Text) (d₀ d : List ℕ) (at n : ℕ) : T
   pub same-long : length d ≡ length d₀
   pub rows-are : rowsAt s (take n d) ≡ keep hasDestination (take passed (rowsIn specs s))
   pub given : Given s (take n d)
-  pub ascends : Ascending (take n d)
+  pub ascends : Increasing (take n d)
   pub under : Under at (take n d)
 
 pub filling-starts : (specs : ℕ) (s : Text) → RowsRead specs s → (d : List ℕ) (at : ℕ) → at ≡ 0 → Filling specs s d d at 0

@@ -10,7 +10,7 @@ use Rattle.meaning.specs.Rows.{Row}
 use Rattle.meaning.specs.Validation.{onto, isText, rowsOnto, inConflict, conflictOn}
 use Rattle.promises.proofs.Laws.{same-is, same-refl}
 use Rattle.keys.specs.declared.key.Key.the-variants.{Destination}
-use Rattle.order.specs.Sorting.{Below, Sorted, runOf, runNext, headsAfter, heads, Ascending}
+use Rattle.order.specs.Sorting.{Below, Sorted, runOf, runNext, headsAfter, heads, Increasing}
 use Rattle.keys.specs.Keys.{rowAt, keyAt, sameAt, notAfter}
 use Rattle.order.proofs.Sorts.{clash}
 use Rattle.order.proofs.Runs.{group-run}
@@ -150,5 +150,5 @@ module _ (s : Text) where
   onto-again p l g = onto-keep p (keep (one p) l) (given-keep (one p) l g) ∙ ap (rowsAt s) (keep-again p l)
 
   -- the run at the front is one
-  pub run-shares : (p : ℕ) (l : List ℕ) → Sorted le (p ∷ l) → Given s (p ∷ l) → Ascending (keep (one p) (p ∷ l)) → OneRun s (take (runOf (one p) (p ∷ l)) (p ∷ l))
+  pub run-shares : (p : ℕ) (l : List ℕ) → Sorted le (p ∷ l) → Given s (p ∷ l) → Increasing (keep (one p) (p ∷ l)) → OneRun s (take (runOf (one p) (p ∷ l)) (p ∷ l))
   run-shares p l o g a = rw (run-is p l o) (record { shared = rw (first-of p l) (onto-again p (p ∷ l) g); ascends = a })

@@ -18,7 +18,7 @@ use Rattle.promises.proofs.Reading.{number-long}
 use Rattle.promises.proofs.Spelling.{one-spelling}
 use Rattle.number.specs.Reading.{Octets}
 use Rattle.number.proofs.Round.{octets-of}
-use Rattle.conflicts.specs.Listed.{rowsIn, RowsRead}
+use Rattle.row_list.specs.Lists.{rowsIn, RowsRead}
 use Rattle.conflicts.specs.Rooms.{rowLeast, manyRows}
 use Rattle.conflicts.proofs.Walks.{list-short}
 

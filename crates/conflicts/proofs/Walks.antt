@@ -25,7 +25,8 @@ use Rattle.row_fields.specs.Fields.{rowMeant, rowPlace, destinationPlace}
 use Rattle.row_list.specs.Rows.{placedRow, rowStepAt, RowTaken, RowSays}
 use Rattle.list.proofs.Records.{accepted-within}
 use Rattle.row_list.proofs.RowWalks.{RowsLeft, rows-left, rows-next, rows-end, rows-refused}
-use Rattle.conflicts.specs.Listed.{rowsIn, RowsRead, InList}
+use Rattle.row_list.specs.Lists.{rowsIn, RowsRead}
+use Rattle.conflicts.specs.ConflictBytes.{InList}
 
 -- where the cursor stands: j rows are behind it
 pub record At (specs : ℕ) (s : Text) (at j : ℕ) : Type 0 where

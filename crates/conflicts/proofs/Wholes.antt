@@ -23,13 +23,14 @@ use Rattle.buffer.proofs.Splices.{splice-none}
 use Rattle.text.proofs.Rests.{rest-cons, rest-end}
 use Rattle.buffer.proofs.Writing.{Writing, writing-starts, writing-room, writing-more, written-whole}
 use Rattle.keys.specs.declared.key.Key.the-variants.{Destination}
-use Rattle.order.specs.Sorting.{insertBy, sortBy, Sorted, runOf, heads, Ascending}
+use Rattle.order.specs.Sorting.{insertBy, sortBy, Sorted, runOf, heads, Increasing}
 use Rattle.keys.specs.Keys.{rowAt, sameAt, notAfter}
 use Rattle.order.proofs.Sorts.{sorted-sort}
 use Rattle.order.proofs.Keys.{keys-order}
 use Rattle.order.proofs.Runs.{group-kept}
 use Rattle.order.proofs.Heads.{ascending-keep}
-use Rattle.conflicts.specs.Listed.{rowsIn, conflictsBytes, putIfRoom}
+use Rattle.row_list.specs.Lists.{rowsIn}
+use Rattle.conflicts.specs.ConflictBytes.{conflictsBytes, putIfRoom}
 use Rattle.conflict.specs.Sizes.{conflictRowMost}
 use Rattle.conflict.specs.Shared.{conflictPart}
 use Rattle.conflict.specs.Shared.{rowsAt, destinationAt, OneRun, runBytes}
@@ -130,7 +131,7 @@ module _ (specs : ℕ) (s : Text) (d : List ℕ) (x : SortedIndex specs s d) whe
   index-sorted : Sorted (notAfter Destination s) d
   index-sorted = rw (x .sorted) (sorted-sort (notAfter Destination s) (keys-order Destination s) (x .places))
 
-  index-grouped : (p : ℕ) → Ascending (keep (sameAt Destination s p) d)
+  index-grouped : (p : ℕ) → Increasing (keep (sameAt Destination s p) d)
   index-grouped p = rw (group p) (ascending-keep (sameAt Destination s p) (x .places) (x .indexed .ascends))
 
   index-given : Given s d
@@ -148,12 +149,12 @@ given-drop s zero l g = g
 given-drop s (suc i) [] g = g
 given-drop s (suc i) (x ∷ l) g = given-drop s i l (g .1)
 
-grouped-drop : (test : ℕ → Bool) (i : ℕ) (l : List ℕ) → Ascending (keep test l) → Ascending (keep test (drop i l))
+grouped-drop : (test : ℕ → Bool) (i : ℕ) (l : List ℕ) → Increasing (keep test l) → Increasing (keep test (drop i l))
 grouped-drop test zero l a = a
 grouped-drop test (suc i) [] a = a
 grouped-drop test (suc i) (x ∷ l) a = grouped-drop test i l (go (test x) a)
   where
-    go : (b : Bool) → Ascending (cond b (x ∷ keep test l) (keep test l)) → Ascending (keep test l)
+    go : (b : Bool) → Increasing (cond b (x ∷ keep test l) (keep test l)) → Increasing (keep test l)
     go true c = c .1
     go false c = c
 
@@ -162,7 +163,7 @@ pub record Here (s : Text) (d : List ℕ) (i : ℕ) : Type 0 where
   pub within : i ≤ length d
   pub sorted : Sorted (notAfter Destination s) (drop i d)
   pub given : Given s (drop i d)
-  pub grouped : (p : ℕ) → Ascending (keep (sameAt Destination s p) (drop i d))
+  pub grouped : (p : ℕ) → Increasing (keep (sameAt Destination s p) (drop i d))
 
 here-starts : (specs : ℕ) (s : Text) (d : List ℕ) → SortedIndex specs s d → Here s d 0
 here-starts specs s d x = record { within = omega arith; sorted = index-sorted specs s d x; given = index-given specs s d x; grouped = index-grouped specs s d x }
@@ -197,8 +198,8 @@ module _ (s : Text) (d : List ℕ) (i : ℕ) (h : Here s d i) (some : i < length
   rest-given : Given s rest
   rest-given = subst (Given s) left (h .given)
 
-  rest-grouped : (p : ℕ) → Ascending (keep (sameAt Destination s p) rest)
-  rest-grouped p = subst (λ (l : List ℕ). Ascending (keep (sameAt Destination s p) l)) left (h .grouped p)
+  rest-grouped : (p : ℕ) → Increasing (keep (sameAt Destination s p) rest)
+  rest-grouped p = subst (λ (l : List ℕ). Increasing (keep (sameAt Destination s p) l)) left (h .grouped p)
 
   pub run-one : OneRun s (take (end - i) (drop i d))
   run-one = subst (OneRun s) (sym run-is) (run-shares s first (drop (i + 1) d) rest-sorted rest-given (rest-grouped first))
@@ -237,7 +238,7 @@ module _ (s : Text) (d : List ℕ) (i : ℕ) (h : Here s d i) (some : i < length
           within = omega (arith, back-long);
           sorted = subst (Sorted (notAfter Destination s)) there (sorted-drop (notAfter Destination s) size rest rest-sorted);
           given = subst (Given s) there (given-drop s size rest rest-given);
-          grouped = λ p. subst (λ (l : List ℕ). Ascending (keep (sameAt Destination s p) l)) there (grouped-drop (sameAt Destination s p) size rest (rest-grouped p));
+          grouped = λ p. subst (λ (l : List ℕ). Increasing (keep (sameAt Destination s p) l)) there (grouped-drop (sameAt Destination s p) size rest (rest-grouped p));
         }
 
 -- the runs before a position are measured

@@ -9,10 +9,10 @@ use Rattle.meaning.specs.Rows.{Row}
 use Rattle.parse.specs.declared.types.Side.{Side}
 use Rattle.parse.specs.declared.types.Side.the-variants.{Absent, Part, Head}
 use Rattle.keys.specs.declared.key.Key.the-variants.{Destination}
-use Rattle.order.specs.Sorting.{Ascending}
+use Rattle.order.specs.Sorting.{Increasing}
 use Rattle.keys.specs.Keys.{rowAt}
 use Rattle.order.specs.Keys.{sortPlaces}
-use Rattle.conflicts.specs.Listed.{rowsIn}
+use Rattle.row_list.specs.Lists.{rowsIn}
 use Rattle.conflict.specs.Shared.{rowsAt}
 
 -- a row has a destination
@@ -28,7 +28,7 @@ Given s (p ∷ l) = (hasDestination (rowAt s p) ≡ true) × Given s l
 pub record Indexed (specs : ℕ) (s : Text) (l : List ℕ) : Type 0 where
   pub rows-are : rowsAt s l ≡ keep hasDestination (rowsIn specs s)
   pub given : Given s l
-  pub ascends : Ascending l
+  pub ascends : Increasing l
 
 -- the same, sorted by destination
 pub record SortedIndex (specs : ℕ) (s : Text) (d : List ℕ) : Type 0 where

@@ -2,7 +2,8 @@
 //! crate's match_group/validate.rs, whose map in order becomes an index of places, sorted by destination.
 ghost use mathlib.Core.Path.{_≡_};
 ghost use lib.ListN.{length};
-ghost use Rattle.conflicts.specs.Listed.{rowsIn, RowsRead, conflictsBytes, putIfRoom};
+ghost use Rattle.row_list.specs.Lists.{rowsIn, RowsRead};
+ghost use Rattle.conflicts.specs.ConflictBytes.{conflictsBytes, putIfRoom};
 
 mod index;
 mod rooms;

@@ -3,7 +3,8 @@
 ghost use mathlib.Core.Path.{_≡_};
 ghost use Prim.Native.Nat.{_≤_};
 ghost use lib.ListN.{length};
-ghost use Rattle.conflicts.specs.Listed.{rowsIn, RowsRead, conflictsBytes, putIfRoom};
+ghost use Rattle.row_list.specs.Lists.{rowsIn, RowsRead};
+ghost use Rattle.conflicts.specs.ConflictBytes.{conflictsBytes, putIfRoom};
 ghost use Rattle.conflicts.specs.Rooms.{fewRows, someRows};
 use super::index::put_indexed;
 use limits::ROW_LIST_BYTES;

@@ -14,20 +14,20 @@ use Rattle.meaning.specs.Spec.{refused}
 use Rattle.meaning.specs.Deliveries.{header, output}
 use Rattle.buffer.specs.Splice.{splice}
 use Rattle.buffer.proofs.Pairs.{pair-put, pair-end}
-use Rattle.print.specs.Lines.{lineBytes}
-use Rattle.deliver.specs.Printed.{fetchRowsIn, linesOf, printedRows}
+use Rattle.print.specs.Lines.{lineMost}
+use Rattle.deliver.specs.Printed.{fetchRowsIn, rowLines, printedRows}
 
 -- the sum fits a machine's number
-pub sum-fits : (h : ℕ) → h ≡ length header → (n : ℕ) → n ≤ lineBytes * programBytes → Fits w64 (h + n)
+pub sum-fits : (h : ℕ) → h ≡ length header → (n : ℕ) → n ≤ lineMost * programBytes → Fits w64 (h + n)
 unfolding header
 sum-fits h eh n g = omega arith
 
 -- the sizes of the header and of the lines
-module _ (list : Text) (h : ℕ) (eh : h ≡ length header) (n : ℕ) (en : n ≡ length (linesOf (fetchRowsIn list))) where
+module _ (list : Text) (h : ℕ) (eh : h ≡ length header) (n : ℕ) (en : n ≡ length (rowLines (fetchRowsIn list))) where
   -- above the limit 17 is printed
   too-long : programBytes < h + n → printedRows list ≡ output (refused 17 none)
   unfolding printedRows
-  too-long g = rw (lt-leb (length (header ++ linesOf (fetchRowsIn list))) programBytes (omega (arith, length-append header (linesOf (fetchRowsIn list)))))
+  too-long g = rw (lt-leb (length (header ++ rowLines (fetchRowsIn list))) programBytes (omega (arith, length-append header (rowLines (fetchRowsIn list)))))
 
   pub limit-put : programBytes < h + n → (d o : Text) → o ≡ splice d 0 (output (refused 17 none)) → o ≡ splice d 0 (printedRows list)
   limit-put g d o e = rw (too-long g) e
@@ -37,16 +37,16 @@ module _ (list : Text) (h : ℕ) (eh : h ≡ length header) (n : ℕ) (en : n �
 
   -- at or below it all is
   module _ (g : h + n ≤ programBytes) (d : Text) (w : programBytes ≤ length d) where
-    all-printed : printedRows list ≡ header ++ linesOf (fetchRowsIn list)
+    all-printed : printedRows list ≡ header ++ rowLines (fetchRowsIn list)
     unfolding printedRows
-    all-printed = rw (le-leb (length (header ++ linesOf (fetchRowsIn list))) programBytes (omega (arith, length-append header (linesOf (fetchRowsIn list)))))
+    all-printed = rw (le-leb (length (header ++ rowLines (fetchRowsIn list))) programBytes (omega (arith, length-append header (rowLines (fetchRowsIn list)))))
 
-    both : 0 + length (header ++ linesOf (fetchRowsIn list)) ≤ length d
-    both = omega (arith, length-append header (linesOf (fetchRowsIn list)))
+    both : 0 + length (header ++ rowLines (fetchRowsIn list)) ≤ length d
+    both = omega (arith, length-append header (rowLines (fetchRowsIn list)))
 
     module _ (o : Text) (i : ℕ) (eo : o ≡ splice d 0 header) (ei : i ≡ 0 + length header) where
-      pub lines-put : (p : Text) → p ≡ splice o i (linesOf (fetchRowsIn list)) → p ≡ splice d 0 (printedRows list)
-      lines-put p e = rw all-printed (pair-put d 0 header (linesOf (fetchRowsIn list)) both o i eo ei p e)
+      pub lines-put : (p : Text) → p ≡ splice o i (rowLines (fetchRowsIn list)) → p ≡ splice d 0 (printedRows list)
+      lines-put p e = rw all-printed (pair-put d 0 header (rowLines (fetchRowsIn list)) both o i eo ei p e)
 
-      pub lines-end : (r : ℕ) → r ≡ i + length (linesOf (fetchRowsIn list)) → r ≡ length (printedRows list)
-      lines-end r e = rw all-printed (omega (arith, pair-end d 0 header (linesOf (fetchRowsIn list)) both o i eo ei r e))
+      pub lines-end : (r : ℕ) → r ≡ i + length (rowLines (fetchRowsIn list)) → r ≡ length (printedRows list)
+      lines-end r e = rw all-printed (omega (arith, pair-end d 0 header (rowLines (fetchRowsIn list)) both o i eo ei r e))

@@ -19,7 +19,8 @@ use Rattle.promises.proofs.Members.{group-count}
 use Rattle.promises.proofs.ReadBack.{forward-sound, forward-back}
 use Rattle.buffer.specs.Splice.{splice}
 use Rattle.list.proofs.Refusals.{specs-refusal, items-refusal}
-use Rattle.deliver.specs.Printed.{Prints, rowsOf, fetchRowsIn, linesOf, printedRows, Listed}
+use Rattle.row_list.specs.Lists.{rowsOf}
+use Rattle.deliver.specs.Printed.{Prints, fetchRowsIn, rowLines, printedRows, Listed}
 use Rattle.deliver.proofs.Longer.{rows-long}
 use Rattle.deliver.proofs.Told.{refused-told, told-fits, told-short, told-seventeen, told-length, told-within, told-text}
 
@@ -29,15 +30,15 @@ module _ (specs items : Text) (group : List Spec) (names : List Text) (es : read
   unfolding matchLhs
   lists-answer = rw (es, ei)
 
-  lists-print : output (printed specs items) ≡ output (withinLimit (header ++ linesOf (forwardRows group names)))
-  unfolding printed linesOf
+  lists-print : output (printed specs items) ≡ output (withinLimit (header ++ rowLines (forwardRows group names)))
+  unfolding printed rowLines
   lists-print = rw (es, ei)
 
   -- a row list that outgrows its buffer is too long in print
   lists-long : programBytes < length (rowListOf (forwardRows group names)) → output (printed specs items) ≡ output (refused 17 none)
   lists-long h =
       let g = rows-long (forwardRows group names) (λ r m. forward-sound group names r m .kind-fits) in
-      lists-print ∙ rw (lt-leb (length (header ++ linesOf (forwardRows group names))) programBytes (omega (arith, length-append header (linesOf (forwardRows group names)))))
+      lists-print ∙ rw (lt-leb (length (header ++ rowLines (forwardRows group names))) programBytes (omega (arith, length-append header (rowLines (forwardRows group names)))))
 
   -- any other is read back
   module _ (h : length (rowListOf (forwardRows group names)) ≤ programBytes) where
@@ -53,7 +54,7 @@ module _ (specs items : Text) (group : List Spec) (names : List Text) (es : read
 
     lists-rows : output (printed specs items) ≡ printedRows (rowListOf (forwardRows group names))
     unfolding printedRows
-    lists-rows = lists-print ∙ ap (λ (l : List Row). output (withinLimit (header ++ linesOf l))) (sym rows-are)
+    lists-rows = lists-print ∙ ap (λ (l : List Row). output (withinLimit (header ++ rowLines l))) (sym rows-are)
 
 -- what the listing told
 module _ (specs items rows : Text) (size : ℕ) where

@@ -8,12 +8,12 @@ use native.Mathlib.Omega.{arith}
 use lib.Dec.{eqb, leb, ltb}
 use lib.ListN.{length, length-append}
 use Rattle.meaning.specs.Bytes.{Text, _and_, each, In, here, there}
-use Rattle.meaning.specs.Limits.{decimalDigits}
+use Rattle.meaning.specs.Limits.{numberGroups, decimalDigits}
 use Rattle.meaning.specs.Number.{numberBytes, textBytes}
 use Rattle.meaning.specs.Rows.{Row, destinationBytes, rowBytes, rowListOf}
 use Rattle.meaning.specs.Deliveries.{digits, decimal, capitalDigit, shownByte, shown, shownOption, shownItem, shownKind, rowLine}
 use Rattle.number.proofs.Bytes.{size-one, bytes-few}
-use Rattle.deliver.specs.Printed.{linesOf}
+use Rattle.deliver.specs.Printed.{rowLines}
 
 -- every field has a byte at least
 decimal-long : (n : ℕ) → 1 ≤ length (decimal n)
@@ -49,8 +49,8 @@ shown-long : (t : Text) → length t + 1 ≤ length (shown t)
 unfolding shown
 shown-long t = omega (arith, bytes-long t)
 
--- two bytes more than the number before a destination has, at most
-destination-long : (o : Option Text) → length (destinationBytes o) ≤ length (shownOption o) + 2
+-- a destination in print lacks at most the number before it, of which `=` or `-` stands for one byte
+destination-long : (o : Option Text) → length (destinationBytes o) + 1 ≤ length (shownOption o) + numberGroups
 destination-long none = omega (arith, bytes-few 0)
 destination-long (some t) = omega (arith, bytes-few (suc (length t)), length-append (numberBytes (suc (length t))) t, shown-long t)
 
@@ -68,7 +68,7 @@ row-long r k =
     omega (arith, line-length r, bytes-length r, item-long (r .item), decimal-long (r .spec), kind-long (r .kind), shown-long (r .source), destination-long (r .destination), bytes-few (r .item), bytes-few (r .spec), size-one (r .kind) (omega arith), bytes-few (length (r .source)))
 
 -- and all of them
-pub rows-long : (rows : List Row) → ((r : Row) → In r rows → r .kind ≤ 1) → length (rowListOf rows) ≤ length (linesOf rows)
-unfolding rowListOf linesOf
+pub rows-long : (rows : List Row) → ((r : Row) → In r rows → r .kind ≤ 1) → length (rowListOf rows) ≤ length (rowLines rows)
+unfolding rowListOf rowLines
 rows-long [] h = omega arith
 rows-long (r ∷ rows) h = omega (arith, row-long r (h r here), rows-long rows (λ q m. h q (there m)), length-append (rowBytes r) (each rows rowBytes), length-append (rowLine r) (each rows rowLine))

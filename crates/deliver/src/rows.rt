@@ -5,9 +5,9 @@ ghost use lib.ListN.{length};
 ghost use Rattle.meaning.specs.Limits.{programBytes};
 ghost use Rattle.meaning.specs.Deliveries.{rowLine};
 ghost use Rattle.buffer.specs.Splice.{splice};
-ghost use Rattle.print.specs.Lines.{lineBytes};
+ghost use Rattle.print.specs.Lines.{lineMost};
 ghost use Rattle.row_fields.specs.Fields.{rowMeant};
-ghost use Rattle.deliver.specs.Printed.{fetchRowsIn, linesOf, printedRows, Prints, Listed, RowStands};
+ghost use Rattle.deliver.specs.Printed.{fetchRowsIn, rowLines, printedRows, Prints, Listed, RowStands};
 use limits::PROGRAM_BYTES;
 use limits::SPEC_COUNT;
 use list::cursor::Cursor;
@@ -25,7 +25,7 @@ use row_list::next_row;
 // How many bytes the line of a row has.
 fn row_size(list: &[u8], row: RowPlace) -> usize
     requires { ⌜ RowStands (now list) row ⌝ }
-    ensures { λ r. ⌜ (r ≡ length (rowLine (rowMeant (now (list .entry)) row))) × (r ≤ lineBytes) ⌝ }
+    ensures { λ r. ⌜ (r ≡ length (rowLine (rowMeant (now (list .entry)) row))) × (r ≤ lineMost) ⌝ }
 {
     let at = row.src_at;
     let end = at + row.src_len;
@@ -67,7 +67,7 @@ fn put_row(out: &mut [u8], i: usize, list: &[u8], row: RowPlace) -> usize
 // How many bytes the lines of a row list have. No row of a list that was accepted is refused.
 fn rows_size(list: &[u8]) -> usize
     requires { ⌜ Listed (now list) ⌝ }
-    ensures { λ r. ⌜ (r ≡ length (linesOf (fetchRowsIn (now (list .entry))))) × (r ≤ lineBytes * programBytes) ⌝ }
+    ensures { λ r. ⌜ (r ≡ length (rowLines (fetchRowsIn (now (list .entry))))) × (r ≤ lineMost * programBytes) ⌝ }
 {
     let mut c = Cursor::new();
     let mut size = 0;
@@ -89,8 +89,8 @@ fn rows_size(list: &[u8]) -> usize
 
 // Writes the lines of a row list, and answers the place after them. No row of a list that was accepted is refused.
 fn put_rows(out: &mut [u8], at: usize, list: &[u8]) -> usize
-    requires { ⌜ Listed (now list) × (at + length (linesOf (fetchRowsIn (now list))) ≤ length (now out)) ⌝ }
-    ensures { λ r. ⌜ (now (out .exit) ≡ splice (now (out .entry)) at (linesOf (fetchRowsIn (now (list .entry))))) × (r ≡ at + length (linesOf (fetchRowsIn (now (list .entry))))) ⌝ }
+    requires { ⌜ Listed (now list) × (at + length (rowLines (fetchRowsIn (now list))) ≤ length (now out)) ⌝ }
+    ensures { λ r. ⌜ (now (out .exit) ≡ splice (now (out .entry)) at (rowLines (fetchRowsIn (now (list .entry))))) × (r ≡ at + length (rowLines (fetchRowsIn (now (list .entry))))) ⌝ }
 {
     let mut c = Cursor::new();
     let mut i = at;

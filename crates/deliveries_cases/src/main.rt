@@ -1,13 +1,11 @@
 // Hands many inputs to the function behind the program `deliveries`, which standard input brings one after the other, each after its
 // length in four bytes, the lowest first, and writes what each prints after a line with its number.
 ghost use Prim.Native.Nat.{_<_};
+use deliver::INPUT_ROOM;
 use deliver::deliver;
 use libc::STDIN_FILENO;
 use libc::STDOUT_FILENO;
 use limits::PROGRAM_BYTES;
-
-// The longest input: one byte above its limit.
-const INPUT: usize = PROGRAM_BYTES + 1;
 
 // A byte as a number.
 fn wide(b: u8) -> usize
@@ -40,7 +38,7 @@ fn print_in(buffer: &mut [u8]) -> bool {
 
 // Reads an input of n bytes, and prints what it gives.
 fn print_of(n: usize) -> bool {
-    let mut buffer = [0u8; INPUT];
+    let mut buffer = [0u8; INPUT_ROOM];
     if buffer.len() < n {
         return false;
     }

@@ -33,7 +33,8 @@ use Rattle.match_one.proofs.Caught.{between}
 use Rattle.match_one.proofs.Onward.{forward-told}
 use Rattle.match_one.proofs.Backward.{back-told}
 use Rattle.filter.specs.declared.Filter.{Filter}
-use Rattle.filter.specs.Filters.{frameAdds, looksRight, passes, FilterWithin, sized, alike, noFilter, wholeFilter, startFilter, partFilter, StopsForward, StopsReverse}
+use Rattle.frames.specs.Frames.{longestFrame}
+use Rattle.filter.specs.Filters.{frameAdds, looksRight, passes, FilterWithin, sizeFilter, alike, noFilter, wholeFilter, startFilter, partFilter, StopsForward, StopsReverse}
 use Rattle.filter.proofs.Looks.{number-part}
 
 -- ---- what passes
@@ -44,16 +45,16 @@ unfolding passes
 lets-through f name l m b = rw (le-leb (f .least) (length name) l, le-leb (length name) (f .most) m, b)
 
 -- by its size alone
-lets-sized : (least most : ℕ) (name : Text) → least ≤ length name → length name ≤ most → passes (sized least most false) name ≡ true
+lets-sized : (least most : ℕ) (name : Text) → least ≤ length name → length name ≤ most → passes (sizeFilter least most false) name ≡ true
 unfolding looksRight
-lets-sized least most name l m = lets-through (sized least most false) name l m refl
+lets-sized least most name l m = lets-through (sizeFilter least most false) name l m refl
 
 -- by the size of a candidate
-lets-framed : (n d : ℕ) (name : Text) → frameAdds d ≡ true → d ≤ 18 → length name ≡ n + d → passes (sized n (n + 18) true) name ≡ true
+lets-framed : (n d : ℕ) (name : Text) → frameAdds d ≡ true → d ≤ longestFrame → length name ≡ n + d → passes (sizeFilter n (n + longestFrame) true) name ≡ true
 unfolding looksRight
 lets-framed n d name a l e =
     let z : length name - n ≡ d = omega arith in
-    lets-through (sized n (n + 18) true) name (omega arith) (omega arith) (rw z a)
+    lets-through (sizeFilter n (n + longestFrame) true) name (omega arith) (omega arith) (rw z a)
 
 -- by how it begins
 lets-alike : (s : Text) (at n least most : ℕ) (name : Text) → at + n ≤ length s → least ≤ length name → length name ≤ most → begins (partAt s at n) name ≡ true → passes (alike s at n least most) name ≡ true
@@ -61,7 +62,7 @@ unfolding alike looksRight
 lets-alike s at n least most name w l m b = go (ltb n 8) refl
   where
     go : (t : Bool) → ltb n 8 ≡ t
-        → passes (cond t (sized least most false) (record { least = least; most = most; worded = true; from = n - 8; word = number 0 8 (drop (at + (n - 8)) s); framed = false })) name ≡ true
+        → passes (cond t (sizeFilter least most false) (record { least = least; most = most; worded = true; from = n - 8; word = number 0 8 (drop (at + (n - 8)) s); framed = false })) name ≡ true
     go true e = lets-sized least most name l m
     go false e =
         let h : 8 ≤ n = ltb-false n 8 e in
@@ -115,7 +116,7 @@ start-stops specs (side.Part at n) star name w h l p = stopped-capture (startFil
 start-stops specs side.Head star name w h l p = absurd h
 
 -- ---- the candidates of a side
-none-framed : (name t : Text) → ((d : ℕ) → frameAdds d ≡ true → d ≤ 18 → length name ≡ length t + d → ⊥) → any (same name) (candidates t) ≡ false
+none-framed : (name t : Text) → ((d : ℕ) → frameAdds d ≡ true → d ≤ longestFrame → length name ≡ length t + d → ⊥) → any (same name) (candidates t) ≡ false
 unfolding frameAdds
 none-framed name t out =
     rw (
@@ -127,7 +128,7 @@ none-framed name t out =
       off (bytes "refs/remotes/") (bytes "/HEAD") refl (omega arith),
     )
   where
-    off : (a b : Text) → frameAdds (length a + length b) ≡ true → length a + length b ≤ 18 → same name (a ++ (t ++ b)) ≡ false
+    off : (a b : Text) → frameAdds (length a + length b) ≡ true → length a + length b ≤ longestFrame → same name (a ++ (t ++ b)) ≡ false
     off a b f h =
         let z : length (a ++ (t ++ b)) ≡ length a + (length t + length b) = simp length-append in
         same-other-length name (a ++ (t ++ b)) (λ e. out (length a + length b) f h (omega (arith, e, z)))
@@ -139,7 +140,7 @@ part-stops specs (side.Part at n) name w l p =
 part-stops specs side.Head name w l p = none-framed name (bytes "HEAD") (λ d f h e. true≢false (sym (lets-framed 4 d name f h e) ∙ p))
 
 -- ---- the eight bytes stand in what is long enough
-sized-within : (least most : ℕ) (framed : Bool) → FilterWithin (sized least most framed)
+sized-within : (least most : ℕ) (framed : Bool) → FilterWithin (sizeFilter least most framed)
 sized-within least most framed e = absurd (false≢true e)
 
 alike-within : (s : Text) (at n least most : ℕ) → n ≤ least → FilterWithin (alike s at n least most)
@@ -147,7 +148,7 @@ unfolding alike
 alike-within s at n least most h = go (ltb n 8) refl
   where
     go : (t : Bool) → ltb n 8 ≡ t
-        → FilterWithin (cond t (sized least most false) (record { least = least; most = most; worded = true; from = n - 8; word = number 0 8 (drop (at + (n - 8)) s); framed = false }))
+        → FilterWithin (cond t (sizeFilter least most false) (record { least = least; most = most; worded = true; from = n - 8; word = number 0 8 (drop (at + (n - 8)) s); framed = false }))
     go true e i = absurd (false≢true i)
     go false e i = let l : 8 ≤ n = ltb-false n 8 e in omega arith
 
@@ -163,8 +164,8 @@ start-within specs side.Head star i = absurd i
 
 part-filter-within : (s : Side) → FilterWithin (partFilter s)
 part-filter-within side.Absent = sized-within 0 nameBytes false
-part-filter-within (side.Part at n) = sized-within n (n + 18) true
-part-filter-within side.Head = sized-within 4 22 true
+part-filter-within (side.Part at n) = sized-within n (n + longestFrame) true
+part-filter-within side.Head = sized-within 4 (4 + longestFrame) true
 
 -- ---- a spec
 module _ (specs : Text) (m : Matcher) (w : MatcherWithin (length specs) m) where
@@ -225,33 +226,33 @@ module _ (specs : Text) (m : Matcher) (w : MatcherWithin (length specs) m) where
 
 -- ---- the arms of a `match` on a side
 module _ (specs : Text) (s : Side) (f : Filter) where
-  pub whole-absent : s ≡ side.Absent → f ≡ sized 0 nameBytes false → f ≡ wholeFilter specs s
+  pub whole-absent : s ≡ side.Absent → f ≡ sizeFilter 0 nameBytes false → f ≡ wholeFilter specs s
   whole-absent is e = rw is e
 
   pub whole-part : (at n : ℕ) → s ≡ side.Part at n → f ≡ alike specs at n n n → f ≡ wholeFilter specs s
   whole-part at n is e = rw is e
 
-  pub whole-head : s ≡ side.Head → f ≡ sized 4 4 false → f ≡ wholeFilter specs s
+  pub whole-head : s ≡ side.Head → f ≡ sizeFilter 4 4 false → f ≡ wholeFilter specs s
   whole-head is e = rw is e
 
   module _ (star : ℕ) where
-    pub start-absent : s ≡ side.Absent → f ≡ sized 0 nameBytes false → f ≡ startFilter specs s star
+    pub start-absent : s ≡ side.Absent → f ≡ sizeFilter 0 nameBytes false → f ≡ startFilter specs s star
     start-absent is e = rw is e
 
     pub start-part : (at n : ℕ) → s ≡ side.Part at n → f ≡ alike specs at star (n - 1) nameBytes → f ≡ startFilter specs s star
     start-part at n is e = rw is e
 
-    pub start-head : s ≡ side.Head → f ≡ sized 0 nameBytes false → f ≡ startFilter specs s star
+    pub start-head : s ≡ side.Head → f ≡ sizeFilter 0 nameBytes false → f ≡ startFilter specs s star
     start-head is e = rw is e
 
 module _ (s : Side) (f : Filter) where
-  pub part-absent : s ≡ side.Absent → f ≡ sized 0 nameBytes false → f ≡ partFilter s
+  pub part-absent : s ≡ side.Absent → f ≡ sizeFilter 0 nameBytes false → f ≡ partFilter s
   part-absent is e = rw is e
 
-  pub part-part : (at n : ℕ) → s ≡ side.Part at n → f ≡ sized n (n + 18) true → f ≡ partFilter s
+  pub part-part : (at n : ℕ) → s ≡ side.Part at n → f ≡ sizeFilter n (n + longestFrame) true → f ≡ partFilter s
   part-part at n is e = rw is e
 
-  pub part-head : s ≡ side.Head → f ≡ sized 4 (4 + 18) true → f ≡ partFilter s
+  pub part-head : s ≡ side.Head → f ≡ sizeFilter 4 (4 + longestFrame) true → f ≡ partFilter s
   part-head is e = rw is e
 
 -- ---- places
@@ -270,7 +271,7 @@ module _ (s : Side) (at n star : ℕ) (is : s ≡ side.Part at n) (i : StarIn st
 
 -- ---- the last eight bytes
 module _ (s : Text) (at n least most : ℕ) (f : Filter) where
-  pub alike-short : n < 8 → f ≡ sized least most false → f ≡ alike s at n least most
+  pub alike-short : n < 8 → f ≡ sizeFilter least most false → f ≡ alike s at n least most
   unfolding alike
   alike-short h e = rw (lt-ltb n 8 h) e
 

@@ -14,6 +14,7 @@ use Rattle.compare.specs.Word.{number}
 use Rattle.parse.specs.declared.types.Side.{Side}
 use Rattle.parse.specs.declared.types.Side.the-variants.{Absent, Part, Head}
 use Rattle.parse.specs.Places.{partAt}
+use Rattle.frames.specs.Frames.{longestFrame}
 use Rattle.matcher.specs.declared.types.Matcher.{Matcher}
 use Rattle.matcher.specs.Matching.{Matches}
 use Rattle.filter.specs.declared.Filter.{Filter}
@@ -41,36 +42,36 @@ nameAt items places k = partAt items (getD places (2 * k) 0) (getD places (2 * k
 -- ---- the filters
 
 -- names of so many bytes, and of a candidate's size, if `framed`
-abbrev pub sized : ℕ → ℕ → Bool → Filter
-sized least most framed = record { least = least; most = most; worded = false; from = 0; word = 0; framed = framed }
+abbrev pub sizeFilter : ℕ → ℕ → Bool → Filter
+sizeFilter least most framed = record { least = least; most = most; worded = false; from = 0; word = 0; framed = framed }
 
 -- names of so many bytes which have, where the n bytes of s that begin at a place have eight or more, the last eight of them
 unfoldable pub alike : Text → ℕ → ℕ → ℕ → ℕ → Filter
 alike s at n least most =
-    cond (ltb n 8) (sized least most false)
+    cond (ltb n 8) (sizeFilter least most false)
     (record { least = least; most = most; worded = true; from = n - 8; word = number 0 8 (drop (at + (n - 8)) s); framed = false })
 
 -- nothing
 abbrev pub noFilter : Filter
-noFilter = sized 1 0 false
+noFilter = sizeFilter 1 0 false
 
 -- what is a side as a whole
 abbrev pub wholeFilter : Text → Side → Filter
-wholeFilter s Absent = sized 0 nameBytes false
+wholeFilter s Absent = sizeFilter 0 nameBytes false
 wholeFilter s (Part at n) = alike s at n n n
-wholeFilter s Head = sized 4 4 false
+wholeFilter s Head = sizeFilter 4 4 false
 
 -- what begins with a side up to its star, and is not shorter than the rest of it
 abbrev pub startFilter : Text → Side → ℕ → Filter
-startFilter s Absent star = sized 0 nameBytes false
+startFilter s Absent star = sizeFilter 0 nameBytes false
 startFilter s (Part at n) star = alike s at star (n - 1) nameBytes
-startFilter s Head star = sized 0 nameBytes false
+startFilter s Head star = sizeFilter 0 nameBytes false
 
 -- what may be a candidate of a side
 abbrev pub partFilter : Side → Filter
-partFilter Absent = sized 0 nameBytes false
-partFilter (Part at n) = sized n (n + 18) true
-partFilter Head = sized 4 22 true
+partFilter Absent = sizeFilter 0 nameBytes false
+partFilter (Part at n) = sizeFilter n (n + longestFrame) true
+partFilter Head = sizeFilter 4 (4 + longestFrame) true
 
 -- what a filter stops has no forward row under the spec of a matcher
 pub record StopsForward (specs : Text) (m : Matcher) (f : Filter) : Type 0 where

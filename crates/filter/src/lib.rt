@@ -6,16 +6,15 @@ ghost use lib.ListN.{length, getD};
 ghost use Rattle.meaning.specs.Limits.{specListBytes};
 ghost use Rattle.parse.specs.Places.{partAt, Within};
 ghost use Rattle.matcher.specs.Matching.{MatcherWithin, StarIn};
-ghost use Rattle.filter.specs.Filters.{frameAdds, passes, FilterWithin, nameAt, sized, alike, noFilter, wholeFilter, startFilter, partFilter, StopsForward, StopsReverse};
+ghost use Rattle.frames.specs.Frames.{longestFrame};
+ghost use Rattle.filter.specs.Filters.{frameAdds, passes, FilterWithin, nameAt, sizeFilter, alike, noFilter, wholeFilter, startFilter, partFilter, StopsForward, StopsReverse};
+use frames::LONGEST_FRAME;
 use limits::NAME_BYTES;
 use matcher::types::Matcher;
 use matcher::types::Needle;
 use matcher::types::Target;
 use parse::types::Side;
 use sides::wide;
-
-// How many bytes the longest frame of a partial name adds: `refs/remotes/` and `/HEAD`.
-const LONGEST_FRAME: usize = 18;
 
 // A name passes that has from `least` to `most` bytes and, where `worded`, those from `from` on that make the number
 // `word`, or else, where `framed`, as many bytes more than `least` as one of the frames of a partial name adds.
@@ -29,8 +28,8 @@ pub struct Filter {
 }
 
 // A filter for how many bytes a name has.
-fn sized(least: usize, most: usize, framed: bool) -> Filter
-    ensures { λ f. ⌜ f ≡ sized least most framed ⌝ }
+fn size_filter(least: usize, most: usize, framed: bool) -> Filter
+    ensures { λ f. ⌜ f ≡ sizeFilter least most framed ⌝ }
 {
     Filter {
         least,
@@ -48,7 +47,7 @@ fn alike(specs: &[u8], at: usize, len: usize, least: usize, most: usize) -> Filt
     ensures { λ f. ⌜ f ≡ alike (now (specs .entry)) at len least most ⌝ }
 {
     if len < 8 {
-        return sized(least, most, false);
+        return size_filter(least, most, false);
     }
     let from = len - 8;
     let word = compare::word::word(specs, at + from);
@@ -66,7 +65,7 @@ fn alike(specs: &[u8], at: usize, len: usize, least: usize, most: usize) -> Filt
 fn no_filter() -> Filter
     ensures { λ f. ⌜ f ≡ noFilter ⌝ }
 {
-    sized(1, 0, false)
+    size_filter(1, 0, false)
 }
 
 // What is a side as a whole.
@@ -75,9 +74,9 @@ fn whole_filter(specs: &[u8], side: Side) -> Filter
     ensures { λ f. ⌜ f ≡ wholeFilter (now (specs .entry)) side ⌝ }
 {
     match side {
-        Side::Absent => sized(0, NAME_BYTES, false),
+        Side::Absent => size_filter(0, NAME_BYTES, false),
         Side::Part(at, len) => alike(specs, at, len, len, len),
-        Side::Head => sized(4, 4, false),
+        Side::Head => size_filter(4, 4, false),
     }
 }
 
@@ -87,18 +86,18 @@ fn start_filter(specs: &[u8], side: Side, star: usize) -> Filter
     ensures { λ f. ⌜ f ≡ startFilter (now (specs .entry)) side star ⌝ }
 {
     match side {
-        Side::Absent => sized(0, NAME_BYTES, false),
+        Side::Absent => size_filter(0, NAME_BYTES, false),
         Side::Part(at, len) => alike(specs, at, star, len - 1, NAME_BYTES),
-        Side::Head => sized(0, NAME_BYTES, false),
+        Side::Head => size_filter(0, NAME_BYTES, false),
     }
 }
 
 // What may be a candidate of a partial name of n bytes.
 fn framed(n: usize) -> Filter
     requires { ⌜ n ≤ specListBytes ⌝ }
-    ensures { λ f. ⌜ f ≡ sized n (n + 18) true ⌝ }
+    ensures { λ f. ⌜ f ≡ sizeFilter n (n + longestFrame) true ⌝ }
 {
-    sized(n, n + LONGEST_FRAME, true)
+    size_filter(n, n + LONGEST_FRAME, true)
 }
 
 // What may be a candidate of a side.
@@ -107,7 +106,7 @@ fn part_filter(len: usize, side: Side) -> Filter
     ensures { λ f. ⌜ f ≡ partFilter side ⌝ }
 {
     match side {
-        Side::Absent => sized(0, NAME_BYTES, false),
+        Side::Absent => size_filter(0, NAME_BYTES, false),
         Side::Part(_, n) => framed(n),
         Side::Head => framed(4),
     }

@@ -15,7 +15,7 @@ use Rattle.buffer.specs.Splice.{splice}
 use Rattle.buffer.proofs.Writing.{Writing, writing-starts, writing-room, writing-more, written-place, written-whole}
 use Rattle.number.proofs.Bytes.{bytes-few}
 use Rattle.number.proofs.Texts.{text-size}
-use Rattle.frames.specs.Frames.{Framing, candidate, frameAt}
+use Rattle.frames.specs.Frames.{longestFrame, Framing, candidate, frameAt}
 
 -- what holds of each of the six numbers
 pub six : (P : ℕ → Type 0) → P 0 → P 1 → P 2 → P 3 → P 4 → P 5 → (k : ℕ) → k < 6 → P k
@@ -49,8 +49,8 @@ trailing-short = six (λ (k : ℕ). length (frameAt k .trailing) ≤ 5) (lit≤ 
 pub candidate-length : (t : Text) (k : ℕ) → k < 6 → length (candidate k t) ≡ length (frameAt k .leading) + length t + length (frameAt k .trailing)
 candidate-length t k h = rw (candidate-framed t k h, length-append (frameAt k .leading) (t ++ frameAt k .trailing), length-append t (frameAt k .trailing)) (omega arith)
 
--- eighteen more than the name at most
-pub candidate-short : (t : Text) (k : ℕ) → k < 6 → length (candidate k t) ≤ length t + 18
+-- what the longest frame adds more than the name at most
+pub candidate-short : (t : Text) (k : ℕ) → k < 6 → length (candidate k t) ≤ length t + longestFrame
 candidate-short t k h = omega (arith, candidate-length t k h, leading-short k h, trailing-short k h)
 
 -- the records from number k on are that one and those after it
@@ -137,7 +137,7 @@ candidate-number t k h l n e = omega (arith, candidate-short t k h)
 
 -- a record has at most so many bytes more than the name: the longest frame, and a number
 abbrev pub recordAdds : ℕ
-recordAdds = 18 + numberGroups
+recordAdds = longestFrame + numberGroups
 
 pub record-short : (t : Text) (k : ℕ) → k < 6 → length (textBytes (candidate k t)) ≤ length t + recordAdds
 record-short t k h = omega (arith, text-size (candidate k t) (length (candidate k t)) refl (length (numberBytes (length (candidate k t)))) refl, bytes-few (length (candidate k t)), candidate-short t k h)

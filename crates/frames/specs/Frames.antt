@@ -27,6 +27,10 @@ pub record Framing (f : Frame) (leading : Text) (size trailing : ℕ) : Type 0 w
 abbrev pub adds : ℕ → ℕ
 adds k = length (frameAt k .leading) + length (frameAt k .trailing)
 
+-- the most bytes that a frame adds to a name: `refs/remotes/` and `/HEAD`
+abbrev pub longestFrame : ℕ
+longestFrame = 18
+
 -- the number of the one frame that adds d bytes; 6 where none does
 unfoldable pub frameAdding : ℕ → ℕ
 frameAdding d = cond (eqb d 0) 0 (cond (eqb d 5) 1 (cond (eqb d 10) 2 (cond (eqb d 11) 3 (cond (eqb d 13) 4 (cond (eqb d 18) 5 6)))))

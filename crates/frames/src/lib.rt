@@ -16,6 +16,9 @@ struct Frame([u8; 13], usize, usize);
 // How many frames there are.
 pub const FRAMES: usize = 6;
 
+// The most bytes that a frame adds to a name: `refs/remotes/` and `/HEAD`.
+pub const LONGEST_FRAME: usize = 18;
+
 // The frames, by candidate number.
 const TABLE: [Frame; 6] = [
     Frame(*b"\0\0\0\0\0\0\0\0\0\0\0\0\0", 0, 0),

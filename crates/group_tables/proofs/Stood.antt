@@ -21,9 +21,9 @@ use Rattle.negatives.specs.Negatives.{negativeNumbers, Negatives}
 use Rattle.negatives.specs.Making.{Added}
 use Rattle.negatives.proofs.Filling.{negatives-none, negatives-next}
 use Rattle.spec_list.specs.declared.record.SpecRecord.{SpecRecord}
-use Rattle.spec_list.specs.Table.{specFrom, blank, recordAt}
+use Rattle.spec_list.specs.Table.{specFromRecord, blank, recordAt}
 use Rattle.spec_list.specs.Group.{recordMeant, groupMeant}
-use Rattle.group_tables.specs.Standing.{Stands, NotedAt, Notable, NotedAll}
+use Rattle.group_tables.specs.Standing.{StandsFor, NotedAt, Notable, NotedAll}
 
 -- ---- one spec
 
@@ -31,11 +31,11 @@ matcher-more : (m : Matcher) (n k : ℕ) → n ≤ k → MatcherWithin n m → M
 matcher-more m n k h w = record { src-within = side-wider n k (m .src) h (w .src-within); dst-within = side-wider n k (m .dst) h (w .dst-within); lhs-within = w .lhs-within; rhs-within = w .rhs-within }
 
 module _ (specs : Text) (r : RefSpec) (b : Bool) (is : b ≡ isNegative (modeMeant (r .mode))) (m : Matcher) where
-  pub stands-negative : b ≡ true → m ≡ noMatcher → Stands specs (specMeant specs r) m
+  pub stands-negative : b ≡ true → m ≡ noMatcher → StandsFor specs (specMeant specs r) m
   unfolding specMeant
   stands-negative e h = record { negative = λ p. h; positive = λ p. absurd (true≢false (sym e ∙ is ∙ p)) }
 
-  pub stands-positive : b ≡ false → Matches specs (specMeant specs r) m → Stands specs (specMeant specs r) m
+  pub stands-positive : b ≡ false → Matches specs (specMeant specs r) m → StandsFor specs (specMeant specs r) m
   unfolding specMeant
   stands-positive e h = record { negative = λ p. absurd (true≢false (sym p ∙ sym is ∙ e)); positive = λ p. h }
 
@@ -46,11 +46,11 @@ pub match-within : (specs : Text) (s : Spec) (m : Matcher) → Matches specs s m
 match-within specs s m h l = matcher-more m (length specs) specListBytes l (h .within)
 
 -- a spec that its record tells
-module _ (specs : Text) (q : SpecRecord) (r : RefSpec) (is : r ≡ specFrom q) where
-  pub record-sides : SidesWithin (length specs) (specFrom q) → SidesWithin (length specs) r
+module _ (specs : Text) (q : SpecRecord) (r : RefSpec) (is : r ≡ specFromRecord q) where
+  pub record-sides : SidesWithin (length specs) (specFromRecord q) → SidesWithin (length specs) r
   record-sides h = rw is h
 
-  pub noted-at : (m : Matcher) → Stands specs (specMeant specs r) m → (before : List ℕ) (i : ℕ) (after : List ℕ) → PutMatcher before i m after → NotedAt specs (recordMeant specs q) before i after
+  pub noted-at : (m : Matcher) → StandsFor specs (specMeant specs r) m → (before : List ℕ) (i : ℕ) (after : List ℕ) → PutMatcher before i m after → NotedAt specs (recordMeant specs q) before i after
   noted-at m h before i after p = record { size = p .size; kept = p .kept; there = rw (p .there, ← is) h }
 
   pub added-record : (t u : List ℕ) (k n : ℕ) → Added specs (specMeant specs r) t k u n → Added specs (recordMeant specs q) t k u n
@@ -62,7 +62,7 @@ pub record Stood (specs : Text) (records : List SpecRecord) (table₀ table nega
   pub here : i ≤ length records
   pub room : length table ≡ length table₀
   pub room₂ : length negatives ≡ length negatives₀
-  pub stand : (j : ℕ) → j < i → Stands specs (recordMeant specs (recordAt records j)) (matcherAt table j)
+  pub stand : (j : ℕ) → j < i → StandsFor specs (recordMeant specs (recordAt records j)) (matcherAt table j)
   pub exclude : Negatives specs (groupMeant specs (take i records)) negatives count
   pub small : count ≤ i
 
@@ -94,7 +94,7 @@ module _ (specs : Text) (records : List SpecRecord) (ready : Notable specs recor
         le-of : (j : ℕ) → j < i + 1 → j ≤ i
         le-of j k = omega arith
 
-        at : (j : ℕ) → (j ≡ i) ⊎ (j < i) → Stands specs (recordMeant specs (recordAt records j)) (matcherAt after j)
+        at : (j : ℕ) → (j ≡ i) ⊎ (j < i) → StandsFor specs (recordMeant specs (recordAt records j)) (matcherAt after j)
         at j (inl y) = rw (y, ← e) (p .there)
         at j (inr k) = rw (p .kept j (λ y. omega arith)) (s .stand j k)
 
@@ -106,5 +106,5 @@ module _ (specs : Text) (records : List SpecRecord) (ready : Notable specs recor
         take-whole : (n : ℕ) (l : List SpecRecord) → length l ≤ n → take n l ≡ l
         take-whole n l k = take-all n l k
 
-    pub stood-sides : i < length records → (q : SpecRecord) → q ≡ recordAt records i → SidesWithin (length specs) (specFrom q)
+    pub stood-sides : i < length records → (q : SpecRecord) → q ≡ recordAt records i → SidesWithin (length specs) (specFromRecord q)
     stood-sides h q e = rw e (ready .sides i h)

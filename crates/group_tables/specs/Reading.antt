@@ -12,7 +12,7 @@ use Rattle.spec_list.specs.declared.record.SpecRecord.{SpecRecord}
 use Rattle.spec_list.specs.Table.{recordAt}
 use Rattle.spec_list.specs.Group.{recordMeant}
 use Rattle.negatives.specs.Negatives.{Negatives}
-use Rattle.group_tables.specs.Standing.{Stands, Notable}
+use Rattle.group_tables.specs.Standing.{StandsFor, Notable}
 
 -- the first n records of a table tell the specs of a list
 pub record Grouped (specs : Text) (records : List SpecRecord) (n : ℕ) : Type 0 where
@@ -25,6 +25,6 @@ pub record TableIs (specs : Text) (table negatives : List ℕ) (n count : ℕ) (
   pub count-is : n ≡ length group
   pub few : n ≤ specCount
   pub specs-short : length specs ≤ specListBytes
-  pub stand : (i : ℕ) → i < length group → (d : Spec) → Stands specs (getD group i d) (matcherAt table i)
+  pub stand : (i : ℕ) → i < length group → (d : Spec) → StandsFor specs (getD group i d) (matcherAt table i)
   pub short : (i : ℕ) → i < length group → (d : Spec) (t : Text) → (getD group i d) .source ≡ some t → length t ≤ specBytes
   pub exclude : Negatives specs group negatives count

@@ -5,11 +5,11 @@ ghost use Rattle.meaning.specs.Limits.{specListBytes, specCount};
 ghost use Rattle.parse.specs.Places.{specMeant, SidesWithin};
 ghost use Rattle.matcher.specs.Matching.{MatcherWithin};
 ghost use Rattle.matcher_table.specs.Numbers.{matcherNumbers};
-ghost use Rattle.spec_list.specs.Table.{specFrom};
+ghost use Rattle.spec_list.specs.Table.{specFromRecord};
 ghost use Rattle.spec_list.specs.Group.{recordMeant};
 ghost use Rattle.negatives.specs.Negatives.{negativeNumbers};
 ghost use Rattle.negatives.specs.Making.{Added};
-ghost use Rattle.group_tables.specs.Standing.{Stands, NotedAt, Notable, NotedAll};
+ghost use Rattle.group_tables.specs.Standing.{StandsFor, NotedAt, Notable, NotedAll};
 use limits::SPEC_COUNT;
 use matcher::matcher;
 use matcher::types::Matcher;
@@ -25,7 +25,7 @@ use spec_list::table::spec_at;
 // What stands for a spec in a table.
 fn matcher_for(specs: &[u8], r: RefSpec) -> Matcher
     requires { ⌜ SidesWithin (length (now specs)) r × (length (now specs) ≤ specListBytes) ⌝ }
-    ensures { λ m. ⌜ Stands (now (specs .entry)) (specMeant (now (specs .entry)) r) m × MatcherWithin specListBytes m ⌝ }
+    ensures { λ m. ⌜ StandsFor (now (specs .entry)) (specMeant (now (specs .entry)) r) m × MatcherWithin specListBytes m ⌝ }
 {
     let mode = r.mode;
     if is_negative(mode) {
@@ -43,7 +43,7 @@ pub fn note(
     negatives: &mut [u16],
     k: usize,
 ) -> usize
-    requires { ⌜ SidesWithin (length (now specs)) (specFrom q) × (length (now specs) ≤ specListBytes) × (matcherNumbers * i + matcherNumbers ≤ length (now table)) × (negativeNumbers * k + negativeNumbers ≤ length (now negatives)) ⌝ }
+    requires { ⌜ SidesWithin (length (now specs)) (specFromRecord q) × (length (now specs) ≤ specListBytes) × (matcherNumbers * i + matcherNumbers ≤ length (now table)) × (negativeNumbers * k + negativeNumbers ≤ length (now negatives)) ⌝ }
     ensures { λ n. ⌜ NotedAt (now (specs .entry)) (recordMeant (now (specs .entry)) q) (now (table .entry)) i (now (table .exit)) × Added (now (specs .entry)) (recordMeant (now (specs .entry)) q) (now (negatives .entry)) k (now (negatives .exit)) n ⌝ }
 {
     let r = spec_from(q);

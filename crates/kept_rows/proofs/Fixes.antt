@@ -22,7 +22,7 @@ use Rattle.number.proofs.Bytes.{bytes-few}
 use Rattle.parse.specs.declared.types.Side.{Side}
 use Rattle.parse.specs.declared.types.Side.the-variants.{Absent, Part, Head}
 use Rattle.parse.specs.Places.{partAt, sideMeant}
-use Rattle.kept_rows.specs.Rows.{fixOn, fixNumbers, fixFor, rowFix}
+use Rattle.kept_rows.specs.Rows.{fixOn, fixNumbersMost, fixFor, rowFix}
 
 -- the bytes of a destination as they are lent
 abbrev pub nameAt : Text → ℕ → ℕ → Text
@@ -58,7 +58,7 @@ module _ (s : Text) (at n i : ℕ) (inside : at + n ≤ length s) (short : lengt
     pub fix-size : a + n + c ≡ length (fixOn i (partAt s at n))
     fix-size = omega (arith, ap length pieces, length-append (numberBytes n) (partAt s at n ++ numberBytes i), length-append (partAt s at n) (numberBytes i), long)
 
-    pub fix-small : a + n + c ≤ length s + fixNumbers
+    pub fix-small : a + n + c ≤ length s + fixNumbersMost
     fix-small = omega (arith, bytes-few n, bytes-few i)
 
     pub fix-fits : Fits w64 (a + n + c)

@@ -25,10 +25,10 @@ use Rattle.row_list.specs.declared.RowStep.the-variants.{Row, End, Refused}
 use Rattle.row_fields.specs.Fields.{rowMeant}
 use Rattle.row_list.specs.Rows.{RowTaken, RowSays}
 use Rattle.row_list.proofs.RowWalks.{RowsLeft, rows-left, RowNext, rows-next, rows-end, rows-refused}
-use Rattle.conflicts.specs.Listed.{rowsIn, RowsRead}
+use Rattle.row_list.specs.Lists.{rowsIn, RowsRead}
 use Rattle.conflicts.proofs.Walks.{list-short}
 use Rattle.conflicts.proofs.Spelled.{spelled}
-use Rattle.kept_rows.specs.Rows.{keptBytes, fixNumbers, fixFor, rowFix}
+use Rattle.kept_rows.specs.Rows.{keptBytes, fixNumbersMost, fixFor, rowFix}
 use Rattle.kept_rows.proofs.Fixes.{fix-shorter}
 
 -- what the rows give, row by row
@@ -87,7 +87,7 @@ pub record Counted (specs : ℕ) (s : Text) (f : meaning.Row → Text) (at size 
   pub rest : List meaning.Row
   pub walk : Walk specs s at number rest
   pub done : size + length (each rest f) ≡ length (each (rowsIn specs s) f)
-  pub small : size ≤ number * (rowListBytes + fixNumbers)
+  pub small : size ≤ number * (rowListBytes + fixNumbersMost)
 
 -- what they give is written
 pub record WrittenRows (specs : ℕ) (s : Text) (f : meaning.Row → Text) (d : Text) (at : ℕ) (out : Text) (to : ℕ) : Type 0 where
@@ -122,7 +122,7 @@ module _ (specs : ℕ) (s : Text) (at : ℕ) (w : RowStep) (says : RowSays specs
     next-text f = ap (λ (l : List meaning.Row). each l f) (next-row .is)
 
 -- measured
-pub within-more : (n len : ℕ) → n ≤ len → n ≤ len + fixNumbers
+pub within-more : (n len : ℕ) → n ≤ len → n ≤ len + fixNumbersMost
 within-more n len h = omega arith
 
 pub counted-starts : (specs : ℕ) (s : Text) (f : meaning.Row → Text) → RowsRead specs s → (at : ℕ) → at ≡ 0 → Counted specs s f at 0
@@ -133,7 +133,7 @@ module _ (specs : ℕ) (s : Text) (f : meaning.Row → Text) (at size : ℕ) (c 
   counted-short = c .walk .short
 
   module _ (w : RowStep) (says : RowSays specs s at w) where
-    module _ (row : RowPlace) (next : Cursor) (e : w ≡ Row row next) (n : ℕ) (small : n ≤ length s + fixNumbers) where
+    module _ (row : RowPlace) (next : Cursor) (e : w ≡ Row row next) (n : ℕ) (small : n ≤ length s + fixNumbersMost) where
       pub counted-more : n ≡ length (f (rowMeant s row)) → Counted specs s f (next .at) (size + n)
       counted-more en =
           let r = next-row specs s at w says row next e (c .number) (c .rest) (c .walk) in
@@ -164,7 +164,7 @@ module _ (specs : ℕ) (s : Text) (at size : ℕ) (w : RowStep) (says : RowSays 
     kept-refused n e = counted-none specs s keptBytes at size c w says n e
 
   module _ (c : Counted specs s rowFix at size) where
-    pub fix-counted : (row : RowPlace) (next : Cursor) → w ≡ Row row next → (n : ℕ) → n ≤ length s + fixNumbers → n ≡ length (fixFor (row .spec) (sideMeant s (row .dst))) → Counted specs s rowFix (next .at) (size + n)
+    pub fix-counted : (row : RowPlace) (next : Cursor) → w ≡ Row row next → (n : ℕ) → n ≤ length s + fixNumbersMost → n ≡ length (fixFor (row .spec) (sideMeant s (row .dst))) → Counted specs s rowFix (next .at) (size + n)
     unfolding rowFix rowMeant
     fix-counted row next e n h en = counted-more specs s rowFix at size c w says row next e n h en
 

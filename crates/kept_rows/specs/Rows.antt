@@ -25,5 +25,5 @@ unfoldable pub rowFix : Row → Text
 rowFix r = fixFor (r .spec) (r .destination)
 
 -- the most bytes of a fix beside its name: two numbers
-abbrev pub fixNumbers : ℕ
-fixNumbers = 2 * numberGroups
+abbrev pub fixNumbersMost : ℕ
+fixNumbersMost = 2 * numberGroups

@@ -10,8 +10,8 @@ ghost use Rattle.buffer.specs.Splice.{splice};
 ghost use Rattle.parse.specs.Places.{partAt, sideMeant, Within};
 ghost use Rattle.row_fields.specs.Fields.{rowMeant};
 ghost use Rattle.row_list.specs.Rows.{RowTaken};
-ghost use Rattle.conflicts.specs.Listed.{rowsIn, RowsRead};
-ghost use Rattle.kept_rows.specs.Rows.{keptBytes, fixOn, fixNumbers, fixFor, rowFix};
+ghost use Rattle.row_list.specs.Lists.{rowsIn, RowsRead};
+ghost use Rattle.kept_rows.specs.Rows.{keptBytes, fixOn, fixNumbersMost, fixFor, rowFix};
 use list::cursor::Cursor;
 use parse::types::Side;
 use row_fields::RowPlace;
@@ -70,7 +70,7 @@ fn row_size(rows: &[u8], specs: usize, at: usize, row: RowPlace, end: usize) -> 
 // How many bytes the fix of a destination takes, which has n bytes that begin at `at`; a full one gives none.
 fn name_fix_size(rows: &[u8], at: usize, n: usize, spec: usize) -> usize
     requires { ⌜ (at + n ≤ length (now rows)) × (length (now rows) ≤ rowListBytes) × (spec ≤ largestNumber) ⌝ }
-    ensures { λ r. ⌜ (r ≡ length (fixOn spec (partAt (now (rows .entry)) at n))) × (r ≤ length (now (rows .entry)) + fixNumbers) ⌝ }
+    ensures { λ r. ⌜ (r ≡ length (fixOn spec (partAt (now (rows .entry)) at n))) × (r ≤ length (now (rows .entry)) + fixNumbersMost) ⌝ }
 {
     if is_full_at(rows, at, n) {
         return 0;
@@ -81,7 +81,7 @@ fn name_fix_size(rows: &[u8], at: usize, n: usize, spec: usize) -> usize
 // How many bytes a row gives to the fixes, by its spec number and its destination.
 fn fix_size(rows: &[u8], spec: usize, dst: Side) -> usize
     requires { ⌜ Within (length (now rows)) dst × (length (now rows) ≤ rowListBytes) × (spec ≤ largestNumber) ⌝ }
-    ensures { λ r. ⌜ (r ≡ length (fixFor spec (sideMeant (now (rows .entry)) dst))) × (r ≤ length (now (rows .entry)) + fixNumbers) ⌝ }
+    ensures { λ r. ⌜ (r ≡ length (fixFor spec (sideMeant (now (rows .entry)) dst))) × (r ≤ length (now (rows .entry)) + fixNumbersMost) ⌝ }
 {
     match dst {
         Side::Absent => 0,

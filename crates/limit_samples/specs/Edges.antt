@@ -6,7 +6,7 @@ use Prim.Native.Nat.{_+_, _^_, _≤_, _<_}
 use lib.Dec.{lit≤, lit<}
 use lib.ListN.{length, replicate}
 use Rattle.meaning.specs.Bytes.{Text, bytes}
-use Rattle.meaning.specs.Limits.{specBytes, nameBytes, specListBytes, itemListBytes, rowListBytes, specCount, itemCount, largestNumber, decimalDigits}
+use Rattle.meaning.specs.Limits.{mappedBytes, specListBytes, itemListBytes, rowListBytes, specCount, itemCount, largestNumber, decimalDigits}
 use Rattle.meaning.specs.Spec.{accepted, refused, Mode, Normal, Negative, Spec, readSpec}
 use Rattle.meaning.specs.Number.{recordBytes}
 use Rattle.meaning.specs.Lists.{readSpecs, readItems}
@@ -22,7 +22,7 @@ pub owed :
     (specListBytes ≤ largestNumber)
     × (itemListBytes ≤ largestNumber)
     × (rowListBytes ≤ largestNumber)
-    × (specBytes + nameBytes < largestNumber)
+    × (mappedBytes < largestNumber)
     × (itemCount ≤ 10 ^ decimalDigits)
     × (specCount ≤ 10 ^ decimalDigits)
 owed = (lit≤ tt, lit≤ tt, lit≤ tt, lit< tt, lit≤ tt, lit≤ tt)

@@ -25,7 +25,7 @@ use Rattle.list.specs.declared.cursor.Step.the-variants.{Record, End, Re
 use Rattle.list.specs.declared.items.Checked.{Checked}
 use Rattle.list.specs.Cursor.{placedStep, stepAt}
 use Rattle.list.specs.Checked.{checked, itemAt}
-use Rattle.list.specs.Places.{PlacesOf, PlacesRead}
+use Rattle.list.specs.Places.{placesRoom, PlacesOf, PlacesRead}
 use Rattle.list.proofs.Texts.{TextAt, stands, malformed, text-at}
 use Rattle.list.proofs.ItemRecords.{item-beyond, item-malformed, item-long, item-read}
 use Rattle.list.proofs.Steps.{step-taken, ItemsLeft, items-left, ItemNext, items-next}
@@ -139,7 +139,7 @@ module _ (items : Text) (at n : ℕ) (w : Step) (ew : w ≡ itemAt n items at) w
     pub name-size : len ≤ itemListBytes
     name-size = omega (arith, x .short)
 
-    module _ (places : List ℕ) (s : Standing items places at n) (first : List ℕ) (same : length places ≡ length first) (long : 2 * itemCount ≤ length first) where
+    module _ (places : List ℕ) (s : Standing items places at n) (first : List ℕ) (same : length places ≡ length first) (long : placesRoom ≤ length first) where
       -- there is room for it
       pub places-room : 2 * n + 2 ≤ length places
       places-room = omega (arith, same, x .few)
@@ -181,7 +181,7 @@ module _ (items : Text) (at n : ℕ) (w : Step) (ew : w ≡ itemAt n items at) w
           short-at j (inr l) = rw (else-same places n start len room (2 * j + 1) (omega arith)) (s .short j l)
 
   -- the list is read
-  module _ (places : List ℕ) (s : Standing items places at n) (first : List ℕ) (same : length places ≡ length first) (long : 2 * itemCount ≤ length first) (small : length items ≤ itemListBytes) (p : Reading itemRecord items at n) where
+  module _ (places : List ℕ) (s : Standing items places at n) (first : List ℕ) (same : length places ≡ length first) (long : placesRoom ≤ length first) (small : length items ≤ itemListBytes) (p : Reading itemRecord items at n) where
     -- the names of a list that is accepted, which are so many, stand there
     noted : (k : ℕ) → k ≤ n → Passed (readItems items) k → PlacesOf items places k
     noted k l q =

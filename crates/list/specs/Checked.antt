@@ -1,4 +1,4 @@
--- What reading an item list or a row list answers, and what stands at a place of an item list.
+-- What reading a list answers in numbers, and what stands at a place of an item list.
 use Prim.Native.Nat.{ℕ}
 use mathlib.Core.Bool.{cond}
 use mathlib.Core.List.{List}

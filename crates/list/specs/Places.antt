@@ -11,6 +11,10 @@ use Rattle.parse.specs.Places.{partAt}
 use Rattle.list.specs.declared.items.Checked.{Checked}
 use Rattle.list.specs.Checked.{checked}
 
+-- room for the places of as many names as a list may have, two numbers for each
+abbrev pub placesRoom : ℕ
+placesRoom = 2 * itemCount
+
 -- the names that an item list holds; none where it is refused
 abbrev pub namesOf : Answer (List Text) → List Text
 namesOf (accepted names) = names

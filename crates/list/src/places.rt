@@ -2,13 +2,17 @@
 ghost use mathlib.Core.Path.{_≡_};
 ghost use Prim.Native.Nat.{_+_, _*_, _≤_};
 ghost use lib.ListN.{length, set};
-ghost use Rattle.meaning.specs.Limits.{itemListBytes, itemCount};
-ghost use Rattle.list.specs.Places.{PlacesRead};
+ghost use Rattle.meaning.specs.Limits.{itemListBytes};
+ghost use Rattle.list.specs.Places.{placesRoom, PlacesRead};
 use super::cursor::Cursor;
 use super::cursor::Step;
 use super::items::Checked;
 use super::items::item_at;
+use limits::ITEM_COUNT;
 use limits::ITEM_LIST_BYTES;
+
+// Room for the places of as many names as a list may have, two numbers for each.
+pub const PLACES_ROOM: usize = 2 * ITEM_COUNT;
 
 // Notes where name number n begins, and how many bytes it has.
 fn put_place(places: &mut [u16], n: usize, start: usize, len: usize)
@@ -21,7 +25,7 @@ fn put_place(places: &mut [u16], n: usize, start: usize, len: usize)
 
 // The records of an item list, one after the other, each noted.
 fn each_place(list: &[u8], places: &mut [u16]) -> Checked
-    requires { ⌜ (length (now list) ≤ itemListBytes) × (2 * itemCount ≤ length (now places)) ⌝ }
+    requires { ⌜ (length (now list) ≤ itemListBytes) × (placesRoom ≤ length (now places)) ⌝ }
     ensures { λ r. ⌜ PlacesRead (now (list .entry)) (now (places .entry)) (now (places .exit)) r ⌝ }
 {
     let mut c = Cursor::new();
@@ -53,7 +57,7 @@ fn each_place(list: &[u8], places: &mut [u16]) -> Checked
 
 // Reads an item list, and notes where each name begins and how many bytes it has, two numbers for each.
 pub fn read_places(list: &[u8], places: &mut [u16]) -> Checked
-    requires { ⌜ 2 * itemCount ≤ length (now places) ⌝ }
+    requires { ⌜ placesRoom ≤ length (now places) ⌝ }
     ensures { λ r. ⌜ PlacesRead (now (list .entry)) (now (places .entry)) (now (places .exit)) r ⌝ }
 {
     if ITEM_LIST_BYTES < list.len() {

@@ -31,7 +31,7 @@ use Rattle.search.specs.Noting.{PlacesIn, TableReady}
 use Rattle.group_tables.specs.Standing.{NotedAll}
 use Rattle.group_tables.specs.Reading.{Grouped, TableIs}
 use Rattle.group_tables.proofs.Groups.{group-ready, group-noted}
-use Rattle.match_group.specs.Listing.{listingRows, listingBytes, listing, firstBytes, tableBytes, listed}
+use Rattle.match_group.specs.Listing.{listingRows, listingBytes, listing, firstBytes, tableBytes, listingAnswer}
 use Rattle.match_group.proofs.Listings.{listing-bytes}
 use Rattle.match_group.proofs.Tables.{table-ready, table-bytes, places-in}
 
@@ -53,22 +53,22 @@ module _ (back : Bool) (gone : Text → Bool) (specs : Text) (table : List ℕ) 
   list-written h o x w e = made-written whole (a + b) size d whole refl w o h x e
 
 -- a spec list that was refused
-specs-turned : (back : Bool) (op : ℕ) (specs items : Text) (n : ℕ) (r : Option ℕ) → readSpecs op specs ≡ refused n r → listed back op specs items ≡ refused n r
+specs-turned : (back : Bool) (op : ℕ) (specs items : Text) (n : ℕ) (r : Option ℕ) → readSpecs op specs ≡ refused n r → listingAnswer back op specs items ≡ refused n r
 unfolding matchLhs matchRhs
 specs-turned true op specs items n r e = rw e
 specs-turned false op specs items n r e = rw e
 
 -- or read
-specs-read : (back : Bool) (op : ℕ) (specs items : Text) (group : List Spec) → readSpecs op specs ≡ accepted group → listed back op specs items ≡ listing back group items
+specs-read : (back : Bool) (op : ℕ) (specs items : Text) (group : List Spec) → readSpecs op specs ≡ accepted group → listingAnswer back op specs items ≡ listing back group items
 unfolding matchLhs matchRhs
 specs-read true op specs items group e = rw e
 specs-read false op specs items group e = rw e
 
 module _ (back : Bool) (op : ℕ) (specs items d : Text) (g : Group) (eg : GroupRead specs g (readSpecs op specs)) where
-  pub specs-refused : (g .refusal ≡ 0 → ⊥) → (w : Written) → w ≡ refusedWith (g .refusal) (g .«record») → MeetsOne (listed back op specs items) d d (w .refusal) (w .«record») (w .length)
+  pub specs-refused : (g .refusal ≡ 0 → ⊥) → (w : Written) → w ≡ refusedWith (g .refusal) (g .«record») → MeetsOne (listingAnswer back op specs items) d d (w .refusal) (w .«record») (w .length)
   specs-refused z w e =
       let f = group-failed specs g (readSpecs op specs) eg z in
-      made-refused (listed back op specs items) d (g .refusal) (f .carried) (g .«record») w (specs-turned back op specs items (g .refusal) (f .carried) (f .answer)) (f .number) e
+      made-refused (listingAnswer back op specs items) d (g .refusal) (f .carried) (g .«record») w (specs-turned back op specs items (g .refusal) (f .carried) (f .answer)) (f .number) e
 
   module _ (z : g .refusal ≡ 0) where
     passed : GroupPassed specs g (readSpecs op specs)
@@ -77,7 +77,7 @@ module _ (back : Bool) (op : ℕ) (specs items d : Text) (g : Group) (eg : Group
     pub specs-grouped : Grouped specs (g .specs) (g .count)
     specs-grouped = group-ready op specs g passed
 
-    pub group-listed : (o : Text) (w t u : ℕ) → MeetsOne (listing back (groupMeant specs (take (g .count) (g .specs))) items) d o w t u → MeetsOne (listed back op specs items) d o w t u
+    pub group-listed : (o : Text) (w t u : ℕ) → MeetsOne (listing back (groupMeant specs (take (g .count) (g .specs))) items) d o w t u → MeetsOne (listingAnswer back op specs items) d o w t u
     group-listed o w t u m = rw (specs-read back op specs items (passed .members) (passed .answer), ← passed .is .means) m
 
 -- a group that was noted

@@ -19,18 +19,18 @@ use Rattle.matcher.specs.Matching.{Matches}
 use Rattle.matcher_table.specs.Numbers.{matcherNumbers, matcherAt, noMatcher}
 use Rattle.list.specs.Places.{namesOf, PlacesOf}
 use Rattle.filter.specs.Filters.{nameAt}
-use Rattle.match_row.specs.Pairs.{specOf, endsIn, itemBytes, objectBytes}
-use Rattle.match_row.specs.Asking.{Ready}
+use Rattle.match_row.specs.Pairs.{matcherSpec, endsIn, itemBytes, objectBytes}
+use Rattle.match_row.specs.Asking.{MatcherReady}
 use Rattle.search.specs.Hits.{across, specAt, pairGives, specGives, groupGives, objectsGive}
 use Rattle.search.specs.Noting.{PlacesIn, TableReady}
 use Rattle.search.proofs.Across.{across-same}
-use Rattle.group_tables.specs.Standing.{Stands}
+use Rattle.group_tables.specs.Standing.{StandsFor}
 use Rattle.group_tables.specs.Reading.{TableIs}
 use Rattle.match_group.specs.Listing.{eachFrom, itemsFrom, bytesOfSpec, listingBytes, tableBytes}
 
 -- ---- one spec
 
-none-matches : (specs : Text) → Matches specs (specOf specs noMatcher) noMatcher
+none-matches : (specs : Text) → Matches specs (matcherSpec specs noMatcher) noMatcher
 none-matches specs =
     record {
       src-is = refl;
@@ -42,7 +42,7 @@ none-matches specs =
     }
 
 module _ (specs : Text) (s : Spec) (m : Matcher) (positive : isNegative (s .mode) ≡ false) (h : Matches specs s m) where
-  own-matches : Matches specs (specOf specs m) m
+  own-matches : Matches specs (matcherSpec specs m) m
   own-matches =
       record {
         src-is = refl;
@@ -53,21 +53,21 @@ module _ (specs : Text) (s : Spec) (m : Matcher) (positive : isNegative (s .mode
         within = h .within;
       }
 
-  own-ends : (back : Bool) (name : Text) → endsIn back (specOf specs m) name ≡ endsIn back s name
+  own-ends : (back : Bool) (name : Text) → endsIn back (matcherSpec specs m) name ≡ endsIn back s name
   unfolding forwardEnds reverseEnds forward reverse
   own-ends true name = rw (← h .src-is, ← h .dst-is)
   own-ends false name = rw (positive, ← h .src-is, ← h .dst-is)
 
-  own-object : (i : ℕ) → objectBytes i (specOf specs m) ≡ objectBytes i s
+  own-object : (i : ℕ) → objectBytes i (matcherSpec specs m) ≡ objectBytes i s
   unfolding objectBytes objectRows objectSource
   own-object i = rw (positive, ← h .src-is, ← h .dst-is)
 
-none-ends : (specs : Text) (back : Bool) (name : Text) → endsIn back (specOf specs noMatcher) name ≡ none
+none-ends : (specs : Text) (back : Bool) (name : Text) → endsIn back (matcherSpec specs noMatcher) name ≡ none
 unfolding forwardEnds reverseEnds forward reverse
 none-ends specs true name = refl
 none-ends specs false name = refl
 
-none-object : (specs : Text) (i : ℕ) → objectBytes i (specOf specs noMatcher) ≡ []
+none-object : (specs : Text) (i : ℕ) → objectBytes i (matcherSpec specs noMatcher) ≡ []
 unfolding objectBytes objectRows objectSource rowListOf
 none-object specs i = refl
 
@@ -90,7 +90,7 @@ negative-object s i e = rw (e, by-negative (s .source))
 
 -- ---- what stands in a table
 
-stands-ready : (specs : Text) (s : Spec) (m : Matcher) → Stands specs s m → length specs ≤ specListBytes → ((t : Text) → s .source ≡ some t → length t ≤ specBytes) → Ready specs m
+stands-ready : (specs : Text) (s : Spec) (m : Matcher) → StandsFor specs s m → length specs ≤ specListBytes → ((t : Text) → s .source ≡ some t → length t ≤ specBytes) → MatcherReady specs m
 stands-ready specs s m st l short = go (isNegative (s .mode)) refl
   where
     none-some : (t : Text) → none ≡ some t → ⊥
@@ -100,23 +100,23 @@ stands-ready specs s m st l short = go (isNegative (s .mode)) refl
         size none = 0
         size (some t) = 1
 
-    go : (b : Bool) → isNegative (s .mode) ≡ b → Ready specs m
+    go : (b : Bool) → isNegative (s .mode) ≡ b → MatcherReady specs m
     go true e = rw (st .negative e) (record { specs-short = l; matches = none-matches specs; short = λ t q. absurd (none-some t q) })
     go false e = let h = st .positive e in record { specs-short = l; matches = own-matches specs s m e h; short = λ t q. short t (sym (h .src-is) ∙ q) }
 
 -- what a name gives under it
-stands-item : (specs : Text) (s : Spec) (m : Matcher) → Stands specs s m → (back : Bool) (gone : Text → Bool) (i j : ℕ) (name : Text) → itemBytes back gone i j name (specOf specs m) ≡ cond (isNegative (s .mode)) [] (itemBytes back gone i j name s)
+stands-item : (specs : Text) (s : Spec) (m : Matcher) → StandsFor specs s m → (back : Bool) (gone : Text → Bool) (i j : ℕ) (name : Text) → itemBytes back gone i j name (matcherSpec specs m) ≡ cond (isNegative (s .mode)) [] (itemBytes back gone i j name s)
 unfolding itemBytes
 stands-item specs s m st back gone i j name = go (isNegative (s .mode)) refl
   where
-    go : (b : Bool) → isNegative (s .mode) ≡ b → itemBytes back gone i j name (specOf specs m) ≡ cond b [] (itemBytes back gone i j name s)
+    go : (b : Bool) → isNegative (s .mode) ≡ b → itemBytes back gone i j name (matcherSpec specs m) ≡ cond b [] (itemBytes back gone i j name s)
     go true e = rw (st .negative e, none-ends specs back name)
     go false e = rw (own-ends specs s m e (st .positive e) back name)
 
-stands-object : (specs : Text) (s : Spec) (m : Matcher) → Stands specs s m → (i : ℕ) → objectBytes i (specOf specs m) ≡ objectBytes i s
+stands-object : (specs : Text) (s : Spec) (m : Matcher) → StandsFor specs s m → (i : ℕ) → objectBytes i (matcherSpec specs m) ≡ objectBytes i s
 stands-object specs s m st i = go (isNegative (s .mode)) refl
   where
-    go : (b : Bool) → isNegative (s .mode) ≡ b → objectBytes i (specOf specs m) ≡ objectBytes i s
+    go : (b : Bool) → isNegative (s .mode) ≡ b → objectBytes i (matcherSpec specs m) ≡ objectBytes i s
     go true e = rw (st .negative e, none-object specs i, negative-object s i e)
     go false e = own-object specs s m e (st .positive e) i
 
@@ -152,14 +152,14 @@ module _ (specs : Text) (table negatives : List ℕ) (m count : ℕ) (group : Li
       }
     where
       blank : Spec
-      blank = specOf specs noMatcher
+      blank = matcherSpec specs noMatcher
 
   module _ (back : Bool) (gone : Text → Bool) (items : Text) (places : List ℕ) (n : ℕ) (p : PlacesOf items places n) where
     abbrev names : List Text
     names = namesOf (readItems items)
 
     abbrev blank : Spec
-    blank = specOf specs noMatcher
+    blank = matcherSpec specs noMatcher
 
     module _ (i : ℕ) (h : i < length group) where
       abbrev s : Spec

@@ -48,9 +48,9 @@ abbrev pub listing : Bool → List Spec → Text → Answer Outputs
 listing back group items = readItems items andThen λ names. accepted (some (rowListOf (listingRows back group names)) ∷ [])
 
 -- what a listing answers, forward or in reverse
-abbrev pub listed : Bool → ℕ → Text → Text → Answer Outputs
-listed true = matchRhs
-listed false = matchLhs
+abbrev pub listingAnswer : Bool → ℕ → Text → Text → Answer Outputs
+listingAnswer true = matchRhs
+listingAnswer false = matchLhs
 
 -- what comes first in a listing of a table: forward, the objects' rows
 abbrev pub firstBytes : Bool → Text → List ℕ → ℕ → Text

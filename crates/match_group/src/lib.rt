@@ -8,7 +8,7 @@ ghost use Rattle.spec_list.specs.Group.{groupMeant};
 ghost use Rattle.matcher_table.specs.Numbers.{matcherNumbers};
 ghost use Rattle.negatives.specs.Negatives.{negativeNumbers};
 ghost use Rattle.group_tables.specs.Reading.{Grouped};
-ghost use Rattle.match_group.specs.Listing.{fewSpecs, listing, listed};
+ghost use Rattle.match_group.specs.Listing.{fewSpecs, listing, listingAnswer};
 
 mod group;
 
@@ -16,8 +16,8 @@ use buffer::written::Written;
 use buffer::written::refused;
 use group::list_group;
 use group_tables::note_group;
-use limits::ITEM_COUNT;
 use limits::SPEC_COUNT;
+use list::places::PLACES_ROOM;
 use list::places::read_places;
 use matcher_table::MATCHER_NUMBERS;
 use negatives::NEGATIVE_NUMBERS;
@@ -37,9 +37,6 @@ const FEW_TABLE: usize = MATCHER_NUMBERS * FEW;
 
 const FEW_NEGATIVES: usize = NEGATIVE_NUMBERS * FEW;
 
-// The places of names have so many.
-const PLACES: usize = 2 * ITEM_COUNT;
-
 // The listing of a group, the first n records of a table, which is noted in tables that have room for it.
 fn list_in(
     back: bool,
@@ -55,7 +52,7 @@ fn list_in(
     ensures { λ w. ⌜ MeetsOne (listing back (groupMeant (now (specs .entry)) (take n records)) (now (items .entry))) (now (out .entry)) (now (out .exit)) (w .refusal) (w .record) (w .length) ⌝ }
 {
     let count = note_group(specs, records, n, table, negatives);
-    let mut places = [0u16; PLACES];
+    let mut places = [0u16; PLACES_ROOM];
     let c = read_places(items, &mut places);
     if c.refusal != 0 {
         return refused(c.refusal, c.record);
@@ -123,7 +120,7 @@ fn list_many(
 
 // The listing of a spec list and an item list, forward or in reverse.
 fn list(back: bool, op: u64, specs: &[u8], items: &[u8], out: &mut [u8]) -> Written
-    ensures { λ w. ⌜ MeetsOne (listed back op (now (specs .entry)) (now (items .entry))) (now (out .entry)) (now (out .exit)) (w .refusal) (w .record) (w .length) ⌝ }
+    ensures { λ w. ⌜ MeetsOne (listingAnswer back op (now (specs .entry)) (now (items .entry))) (now (out .entry)) (now (out .exit)) (w .refusal) (w .record) (w .length) ⌝ }
 {
     let g = read_specs(op, specs);
     if g.refusal != 0 {

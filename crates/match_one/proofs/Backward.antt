@@ -22,7 +22,7 @@ use Rattle.matcher.specs.declared.types.Lead.the-variants as lead
 use Rattle.matcher.specs.declared.types.Target.{Target}
 use Rattle.matcher.specs.declared.types.Target.the-variants as target
 use Rattle.matcher.specs.declared.types.Matcher.{Matcher}
-use Rattle.matcher.specs.declared.types.RowText.the-variants as made
+use Rattle.matcher.specs.declared.types.RowText.the-variants as row-text
 use Rattle.matcher.specs.declared.types.Ends.{Ends}
 use Rattle.matcher.specs.declared.types.Ends.the-variants as ends
 use Rattle.matcher.specs.Matching.{endsMeant, needleMeant, targetMeant, StarIn, Matches}
@@ -36,7 +36,7 @@ module _ (specs name : Text) (src dst : Side) (u : Text) (eu : u ≡ sideText sp
 
   -- the name is the destination
   pub same-is-back : b ≡ true → Within (length specs) src
-      → AnswersBack specs name (reverseForms (some (literal (sideText specs src))) (some (literal (sideText specs dst))) name) (ends.Row (made.Led lead.AsIs src) made.Name)
+      → AnswersBack specs name (reverseForms (some (literal (sideText specs src))) (some (literal (sideText specs dst))) name) (ends.Row (row-text.Led lead.AsIs src) row-text.Name)
   same-is-back e w = record { meant = rw (sym is-same ∙ e); within = (w, tt) }
 
   -- it is not
@@ -52,7 +52,7 @@ module _ (specs name : Text) (src : Side) (star : ℕ) (dst : Side) (second : �
       record { meant = rw z; within = tt }
 
   -- one
-  pub both-part : (from n : ℕ) (r : Ends) → g ≡ captured.Part from n → CaptureWithin (length name) g → Within (length specs) src → StarIn star src → r ≡ ends.Row (filledPlace src star from n) made.Name
+  pub both-part : (from n : ℕ) (r : Ends) → g ≡ captured.Part from n → CaptureWithin (length name) g → Within (length specs) src → StarIn star src → r ≡ ends.Row (filledPlace src star from n) row-text.Name
       → AnswersBack specs name (reverseForms (needleForm (sideText specs src) (needle.Glob star)) (targetMeant (sideText specs dst) (target.Pattern second)) name) r
   both-part from n r e l w h er =
       let z : capture (take second (sideText specs dst)) (drop (suc second) (sideText specs dst)) name ≡ some (partAt name from n) = sym (rw e at eg) in

@@ -25,12 +25,12 @@ use Rattle.matcher.specs.declared.types.Lead.the-variants as lead
 use Rattle.matcher.specs.declared.types.Target.{Target}
 use Rattle.matcher.specs.declared.types.Target.the-variants as target
 use Rattle.matcher.specs.declared.types.Matcher.{Matcher}
-use Rattle.matcher.specs.declared.types.RowText.the-variants as made
+use Rattle.matcher.specs.declared.types.RowText.the-variants as row-text
 use Rattle.matcher.specs.declared.types.Ends.{Ends}
 use Rattle.matcher.specs.declared.types.Ends.the-variants as ends
 use Rattle.matcher.specs.Matching.{endsMeant, EndsWithin, needleMeant, targetMeant, StarIn, NeedleWithin, TargetWithin, MatcherWithin, Matches, objectEnds}
 use Rattle.match_one.specs.Answers.{filledPlace, wholePlaces, caughtPlaces, digitsPlaces, objectPlaces, hitBy, Answers, needleForm, reverseForms, AnswersBack}
-use Rattle.match_one.specs.Known.{unlessShort, knownCaught, knownPlaces, knownFilled, knownGlobBack, knownLiteralBack, knownBack, KnownForward, KnownReverse}
+use Rattle.match_one.specs.Known.{ifLongEnough, knownCaught, knownPlaces, knownFilled, knownGlobBack, knownLiteralBack, knownBack, KnownForward, KnownReverse}
 use Rattle.match_one.proofs.Caught.{in-place}
 use Rattle.match_one.proofs.Fills.{filled-meant, filled-within}
 use Rattle.match_one.proofs.Onward.{whole-answers, caught-answers, forward-told}
@@ -43,20 +43,20 @@ none-some x k = let z : _≡_ {A = ℕ} 0 1 = cc in omega arith
 
 -- ---- a name that is not too short
 module _ (n size : ℕ) (e : Ends) where
-  pub long-enough : size ≤ n + 1 → (r : Ends) → r ≡ e → r ≡ unlessShort n size e
-  unfolding unlessShort
+  pub long-enough : size ≤ n + 1 → (r : Ends) → r ≡ e → r ≡ ifLongEnough n size e
+  unfolding ifLongEnough
   long-enough h r q = rw (le-ltb (n + 1) size h) q
 
-  pub too-short : n + 1 < size → ends.Nothing ≡ unlessShort n size e
-  unfolding unlessShort
+  pub too-short : n + 1 < size → ends.Nothing ≡ ifLongEnough n size e
+  unfolding ifLongEnough
   too-short h = rw (lt-ltb (n + 1) size h)
 
   -- the places of both stand where those of the ends do
-  short-within : (len : ℕ) → (size ≤ n + 1 → EndsWithin len n e) → EndsWithin len n (unlessShort n size e)
-  unfolding unlessShort
+  short-within : (len : ℕ) → (size ≤ n + 1 → EndsWithin len n e) → EndsWithin len n (ifLongEnough n size e)
+  unfolding ifLongEnough
   short-within len h = go (ltb (n + 1) size) refl
     where
-      go : (t : Bool) → ltb (n + 1) size ≡ t → EndsWithin len n (unlessShort n size e)
+      go : (t : Bool) → ltb (n + 1) size ≡ t → EndsWithin len n (ifLongEnough n size e)
       go true q = rw q tt
       go false q = rw q (h (ltb-false (n + 1) size q))
 
@@ -179,7 +179,7 @@ module _ (specs : Text) (src : Side) (w : Within (length specs) src) where
       go : (d : Side) → StarIn second d → EndsWithin (length specs) n (knownFilled src star d second n)
       go side.Absent i = tt
       go (side.Part at size) i =
-          short-within n size (ends.Row (filledPlace src star second (n + 1 - size)) made.Name) (length specs) (λ l. (filled-within (length specs) n src star second (n + 1 - size) w h (omega arith), tt))
+          short-within n size (ends.Row (filledPlace src star second (n + 1 - size)) row-text.Name) (length specs) (λ l. (filled-within (length specs) n src star second (n + 1 - size) w h (omega arith), tt))
       go side.Head i = tt
   known-back-fits n needle.FullName h dst rhs u = literal-back-fits n rhs
   known-back-fits n needle.Object h dst rhs u = literal-back-fits n rhs
@@ -193,7 +193,7 @@ module _ (specs : Text) (src : Side) (w : Within (length specs) src) where
   literal-known-back name dst (target.Literal l) some-row = go (same (sideText specs dst) name) refl
     where
       go : (b : Bool) → same (sideText specs dst) name ≡ b
-          → AnswersBack specs name (reverseForms (some (literal (sideText specs src))) (some (literal (sideText specs dst))) name) (ends.Row (made.Led lead.AsIs src) made.Name)
+          → AnswersBack specs name (reverseForms (some (literal (sideText specs src))) (some (literal (sideText specs dst))) name) (ends.Row (row-text.Led lead.AsIs src) row-text.Name)
       go true e = record { meant = rw e; within = (w, tt) }
       go false e = absurd (some-row (rw e))
 
@@ -205,7 +205,7 @@ module _ (specs : Text) (src : Side) (w : Within (length specs) src) where
   filled-known-back name star h second (side.Part at size) v i none k some-row = absurd (some-row refl)
   filled-known-back name star h second (side.Part at size) v i (some c) k some-row =
       let p = in-place specs at size second name c v i k in
-      let row = ends.Row (filledPlace src star second (length name + 1 - size)) made.Name in
+      let row = ends.Row (filledPlace src star second (length name + 1 - size)) row-text.Name in
       let z : capture (take second (partAt specs at size)) (drop (suc second) (partAt specs at size)) name ≡ some (partAt name second (length name + 1 - size)) = k ∙ ap some (p .is) in
       rw (← long-enough (length name) size row (p .long) row refl)
       (record {
@@ -245,17 +245,17 @@ module _ (specs : Text) (m : Matcher) (w : MatcherWithin (length specs) m) where
 
 -- ---- the arms of a `match`
 module _ (src : Side) (star : ℕ) (dst : Side) (rhs : Target) (n : ℕ) (r : Ends) where
-  pub caught-part : (at size : ℕ) → src ≡ side.Part at size → r ≡ unlessShort n size (caughtPlaces dst rhs star (n + 1 - size)) → r ≡ knownCaught src star dst rhs n
+  pub caught-part : (at size : ℕ) → src ≡ side.Part at size → r ≡ ifLongEnough n size (caughtPlaces dst rhs star (n + 1 - size)) → r ≡ knownCaught src star dst rhs n
   caught-part at size is e = rw is e
 
   pub glob-back-pattern : (second : ℕ) → rhs ≡ target.Pattern second → r ≡ knownFilled src star dst second n → r ≡ knownGlobBack src star dst rhs n
   glob-back-pattern second is e = rw is e
 
 pub filled-part : (src : Side) (star : ℕ) (dst : Side) (second n : ℕ) (r : Ends) (at size : ℕ) → dst ≡ side.Part at size
-    → r ≡ unlessShort n size (ends.Row (filledPlace src star second (n + 1 - size)) made.Name) → r ≡ knownFilled src star dst second n
+    → r ≡ ifLongEnough n size (ends.Row (filledPlace src star second (n + 1 - size)) row-text.Name) → r ≡ knownFilled src star dst second n
 filled-part src star dst second n r at size is e = rw is e
 
-pub literal-back : (src : Side) (rhs : Target) (l : Lead) → rhs ≡ target.Literal l → ends.Row (made.Led lead.AsIs src) made.Name ≡ knownLiteralBack src rhs
+pub literal-back : (src : Side) (rhs : Target) (l : Lead) → rhs ≡ target.Literal l → ends.Row (row-text.Led lead.AsIs src) row-text.Name ≡ knownLiteralBack src rhs
 literal-back src rhs l is = rw is
 
 module _ (src : Side) (lhs : Needle) (dst : Side) (rhs : Target) (n : ℕ) where

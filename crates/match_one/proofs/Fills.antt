@@ -16,7 +16,7 @@ use Rattle.parse.specs.Places.{partAt, Within}
 use Rattle.parse.proofs.Parts.{part-length}
 use Rattle.refspec.specs.Instructions.{sideText}
 use Rattle.matcher.specs.declared.types.RowText.{RowText}
-use Rattle.matcher.specs.declared.types.RowText.the-variants as made
+use Rattle.matcher.specs.declared.types.RowText.the-variants as row-text
 use Rattle.matcher.specs.Matching.{rowTextMeant, RowTextWithin, StarIn}
 use Rattle.match_one.specs.Answers.{filledAt, filledPlace}
 
@@ -27,7 +27,7 @@ module _ (s : Side) (at n : ℕ) (is : s ≡ side.Part at n) where
   star-part star h = rw is at h
 
   -- its places
-  pub filled-is : (star from len : ℕ) (r : RowText) → r ≡ made.Filled (filledAt at n star from len) → r ≡ filledPlace s star from len
+  pub filled-is : (star from len : ℕ) (r : RowText) → r ≡ row-text.Filled (filledAt at n star from len) → r ≡ filledPlace s star from len
   filled-is star from len r h = rw is h
 
 -- the star of a side stands below the length of its text

@@ -20,7 +20,7 @@ use Rattle.matcher.specs.declared.types.Lead.the-variants as lead
 use Rattle.matcher.specs.declared.types.Target.{Target}
 use Rattle.matcher.specs.declared.types.Target.the-variants as target
 use Rattle.matcher.specs.declared.types.Matcher.{Matcher}
-use Rattle.matcher.specs.declared.types.RowText.the-variants as made
+use Rattle.matcher.specs.declared.types.RowText.the-variants as row-text
 use Rattle.matcher.specs.declared.types.Ends.{Ends}
 use Rattle.matcher.specs.declared.types.Ends.the-variants as ends
 use Rattle.matcher.specs.Matching.{endsMeant, needleMeant, EndsWithin, MatcherWithin, Matches, objectEndsBy, objectEnds, objectRowOf}
@@ -29,10 +29,10 @@ use Rattle.match_one.proofs.Onward.{led-maps}
 
 -- the arms of a `match` on a destination
 module _ (src dst : Side) (rhs : Target) where
-  pub digits-absent : rhs ≡ target.Absent → ends.Row (made.Led lead.Digits src) made.Absent ≡ digitsPlaces src dst rhs
+  pub digits-absent : rhs ≡ target.Absent → ends.Row (row-text.Led lead.Digits src) row-text.Absent ≡ digitsPlaces src dst rhs
   digits-absent is = rw is
 
-  pub digits-literal : (l : Lead) → rhs ≡ target.Literal l → ends.Row (made.Led lead.Digits src) (made.Led l dst) ≡ digitsPlaces src dst rhs
+  pub digits-literal : (l : Lead) → rhs ≡ target.Literal l → ends.Row (row-text.Led lead.Digits src) (row-text.Led l dst) ≡ digitsPlaces src dst rhs
   digits-literal l is = rw is
 
   -- the arm of one on what the source looks for

@@ -21,7 +21,7 @@ use Rattle.matcher.specs.declared.types.Lead.{Lead}
 use Rattle.matcher.specs.declared.types.Target.{Target}
 use Rattle.matcher.specs.declared.types.Target.the-variants as target
 use Rattle.matcher.specs.declared.types.Matcher.{Matcher}
-use Rattle.matcher.specs.declared.types.RowText.the-variants as made
+use Rattle.matcher.specs.declared.types.RowText.the-variants as row-text
 use Rattle.matcher.specs.declared.types.Ends.{Ends}
 use Rattle.matcher.specs.declared.types.Ends.the-variants as ends
 use Rattle.matcher.specs.Matching.{endsMeant, needleMeant, targetMeant, Completes, StarIn, NeedleWithin, TargetWithin, Matches}
@@ -32,13 +32,13 @@ use Rattle.match_one.proofs.Fills.{filled-meant, filled-within}
 
 module _ (dst : Side) (rhs : Target) where
   module _ (is : rhs ≡ target.Absent) where
-    pub whole-absent : ends.Row made.Name made.Absent ≡ wholePlaces dst rhs
+    pub whole-absent : ends.Row row-text.Name row-text.Absent ≡ wholePlaces dst rhs
     whole-absent = rw is
 
-    pub caught-absent : (from n : ℕ) → ends.Row made.Name made.Absent ≡ caughtPlaces dst rhs from n
+    pub caught-absent : (from n : ℕ) → ends.Row row-text.Name row-text.Absent ≡ caughtPlaces dst rhs from n
     caught-absent from n = rw is
 
-  pub whole-literal : (l : Lead) → rhs ≡ target.Literal l → ends.Row made.Name (made.Led l dst) ≡ wholePlaces dst rhs
+  pub whole-literal : (l : Lead) → rhs ≡ target.Literal l → ends.Row row-text.Name (row-text.Led l dst) ≡ wholePlaces dst rhs
   whole-literal l is = rw is
 
   module _ (star : ℕ) (is : rhs ≡ target.Pattern star) where

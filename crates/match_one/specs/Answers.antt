@@ -19,7 +19,7 @@ use Rattle.matcher.specs.declared.types.Target.{Target}
 use Rattle.matcher.specs.declared.types.Target.the-variants as target
 use Rattle.matcher.specs.declared.types.Filled.{Filled}
 use Rattle.matcher.specs.declared.types.RowText.{RowText}
-use Rattle.matcher.specs.declared.types.RowText.the-variants as made
+use Rattle.matcher.specs.declared.types.RowText.the-variants as row-text
 use Rattle.matcher.specs.declared.types.Ends.{Ends}
 use Rattle.matcher.specs.declared.types.Ends.the-variants as ends
 use Rattle.matcher.specs.Matching.{ledText, endsMeant, EndsWithin}
@@ -30,27 +30,27 @@ filledAt at size star from n = record { start = at; «start_len» = star; from =
 
 -- a side that is such a pattern; only a part of the spec list has a star
 abbrev pub filledPlace : Side → ℕ → ℕ → ℕ → RowText
-filledPlace side.Absent star from n = made.Absent
-filledPlace (side.Part at size) star from n = made.Filled (filledAt at size star from n)
-filledPlace side.Head star from n = made.Absent
+filledPlace side.Absent star from n = row-text.Absent
+filledPlace (side.Part at size) star from n = row-text.Filled (filledAt at size star from n)
+filledPlace side.Head star from n = row-text.Absent
 
 -- the ends of a name that was matched as a whole
 abbrev pub wholePlaces : Side → Target → Ends
-wholePlaces dst target.Absent = ends.Row made.Name made.Absent
+wholePlaces dst target.Absent = ends.Row row-text.Name row-text.Absent
 wholePlaces dst (target.Pattern star) = ends.Nothing
-wholePlaces dst (target.Literal l) = ends.Row made.Name (made.Led l dst)
+wholePlaces dst (target.Literal l) = ends.Row row-text.Name (row-text.Led l dst)
 
 -- the ends of a name that was matched with a capture
 abbrev pub caughtPlaces : Side → Target → ℕ → ℕ → Ends
-caughtPlaces dst target.Absent from n = ends.Row made.Name made.Absent
-caughtPlaces dst (target.Pattern star) from n = ends.Row made.Name (filledPlace dst star from n)
+caughtPlaces dst target.Absent from n = ends.Row row-text.Name row-text.Absent
+caughtPlaces dst (target.Pattern star) from n = ends.Row row-text.Name (filledPlace dst star from n)
 caughtPlaces dst (target.Literal l) from n = ends.Nothing
 
 -- the ends of an object source's row by its destination
 abbrev pub digitsPlaces : Side → Side → Target → Ends
-digitsPlaces src dst target.Absent = ends.Row (made.Led lead.Digits src) made.Absent
+digitsPlaces src dst target.Absent = ends.Row (row-text.Led lead.Digits src) row-text.Absent
 digitsPlaces src dst (target.Pattern star) = ends.Nothing
-digitsPlaces src dst (target.Literal l) = ends.Row (made.Led lead.Digits src) (made.Led l dst)
+digitsPlaces src dst (target.Literal l) = ends.Row (row-text.Led lead.Digits src) (row-text.Led l dst)
 
 -- the ends of an object source's row, if the source is one
 abbrev pub objectPlaces : Side → Needle → Side → Target → Ends

@@ -17,20 +17,20 @@ use Rattle.matcher.specs.declared.types.Lead.the-variants as lead
 use Rattle.matcher.specs.declared.types.Target.{Target}
 use Rattle.matcher.specs.declared.types.Target.the-variants as target
 use Rattle.matcher.specs.declared.types.Matcher.{Matcher}
-use Rattle.matcher.specs.declared.types.RowText.the-variants as made
+use Rattle.matcher.specs.declared.types.RowText.the-variants as row-text
 use Rattle.matcher.specs.declared.types.Ends.{Ends}
 use Rattle.matcher.specs.declared.types.Ends.the-variants as ends
 use Rattle.matcher.specs.Matching.{endsMeant, EndsWithin, Matches, objectEnds}
 use Rattle.match_one.specs.Answers.{filledPlace, wholePlaces, caughtPlaces, digitsPlaces}
 
 -- the ends of a name of n bytes, unless a pattern of `size` bytes has more without its star
-unfoldable pub unlessShort : ℕ → ℕ → Ends → Ends
-unlessShort n size e = cond (ltb (n + 1) size) ends.Nothing e
+unfoldable pub ifLongEnough : ℕ → ℕ → Ends → Ends
+ifLongEnough n size e = cond (ltb (n + 1) size) ends.Nothing e
 
 -- those of a name of n bytes that a source with a star matches: what is more than the pattern has is caught
 abbrev pub knownCaught : Side → ℕ → Side → Target → ℕ → Ends
 knownCaught side.Absent star dst rhs n = ends.Nothing
-knownCaught (side.Part at size) star dst rhs n = unlessShort n size (caughtPlaces dst rhs star (n + 1 - size))
+knownCaught (side.Part at size) star dst rhs n = ifLongEnough n size (caughtPlaces dst rhs star (n + 1 - size))
 knownCaught side.Head star dst rhs n = ends.Nothing
 
 -- those of a name of n bytes that a spec matches; a source that is an object id has its own row
@@ -44,7 +44,7 @@ knownPlaces src needle.PartialName dst rhs n = wholePlaces dst rhs
 -- in reverse, where both sides have a star
 abbrev pub knownFilled : Side → ℕ → Side → ℕ → ℕ → Ends
 knownFilled src star side.Absent second n = ends.Nothing
-knownFilled src star (side.Part at size) second n = unlessShort n size (ends.Row (filledPlace src star second (n + 1 - size)) made.Name)
+knownFilled src star (side.Part at size) second n = ifLongEnough n size (ends.Row (filledPlace src star second (n + 1 - size)) row-text.Name)
 knownFilled src star side.Head second n = ends.Nothing
 
 -- where the source has one
@@ -57,7 +57,7 @@ knownGlobBack src star dst (target.Literal l) n = ends.Nothing
 abbrev pub knownLiteralBack : Side → Target → Ends
 knownLiteralBack src target.Absent = ends.Nothing
 knownLiteralBack src (target.Pattern second) = ends.Nothing
-knownLiteralBack src (target.Literal l) = ends.Row (made.Led lead.AsIs src) made.Name
+knownLiteralBack src (target.Literal l) = ends.Row (row-text.Led lead.AsIs src) row-text.Name
 
 -- in reverse
 abbrev pub knownBack : Side → Needle → Side → Target → ℕ → Ends

@@ -6,7 +6,7 @@ ghost use Rattle.meaning.specs.Limits.{nameBytes};
 ghost use Rattle.parse.specs.Places.{Within};
 ghost use Rattle.matcher.specs.Matching.{StarIn, NeedleWithin, TargetWithin};
 ghost use Rattle.match_one.specs.Answers.{filledPlace, caughtPlaces};
-ghost use Rattle.match_one.specs.Known.{unlessShort, knownCaught, knownPlaces, knownFilled, knownGlobBack, knownLiteralBack, knownBack};
+ghost use Rattle.match_one.specs.Known.{ifLongEnough, knownCaught, knownPlaces, knownFilled, knownGlobBack, knownLiteralBack, knownBack};
 use super::rows::caught_row;
 use super::rows::digits_row;
 use super::rows::filled_back;
@@ -21,7 +21,7 @@ use parse::types::Side;
 // The ends of a name of n bytes by a source of `size` bytes, one of them a star.
 fn part_known(specs: &[u8], size: usize, star: usize, dst: Side, rhs: Target, n: usize) -> Ends
     requires { ⌜ Within (length (now specs)) dst × TargetWithin dst rhs × (n ≤ nameBytes) ⌝ }
-    ensures { λ r. ⌜ r ≡ unlessShort n size (caughtPlaces dst rhs star (n + 1 - size)) ⌝ }
+    ensures { λ r. ⌜ r ≡ ifLongEnough n size (caughtPlaces dst rhs star (n + 1 - size)) ⌝ }
 {
     let room = n + 1;
     if room < size {
@@ -73,7 +73,7 @@ fn part_known_back(
     n: usize,
 ) -> Ends
     requires { ⌜ Within (length (now specs)) src × StarIn star src × (n ≤ nameBytes) ⌝ }
-    ensures { λ r. ⌜ r ≡ unlessShort n size (Ends.Row (filledPlace src star second (n + 1 - size)) RowText.Name) ⌝ }
+    ensures { λ r. ⌜ r ≡ ifLongEnough n size (Ends.Row (filledPlace src star second (n + 1 - size)) RowText.Name) ⌝ }
 {
     let room = n + 1;
     if room < size {

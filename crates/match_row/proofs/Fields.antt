@@ -14,21 +14,21 @@ use Rattle.buffer.specs.Splice.{splice}
 use Rattle.matcher.specs.declared.types.RowText.{RowText}
 use Rattle.matcher.specs.Matching.{objectEnds, objectRowOf}
 use Rattle.match_one.proofs.Objects.{object-rows}
-use Rattle.row.specs.Rows.{rowMeant}
-use Rattle.match_row.specs.Pairs.{endsIn, rowUnless, itemBytes, objectBytes, kindOf, fieldRow, givenRow, fieldBytes}
+use Rattle.row.specs.Rows.{rowOfTexts}
+use Rattle.match_row.specs.Pairs.{endsIn, rowUnless, itemBytes, objectBytes, fieldKind, fieldRow, givenRow, fieldBytes}
 use Rattle.match_row.specs.Asking.{Put}
 
-pub kind-of-name : (field : ℕ) → (field ≡ 0 → ⊥) → 0 ≡ kindOf field
+pub kind-of-name : (field : ℕ) → (field ≡ 0 → ⊥) → 0 ≡ fieldKind field
 kind-of-name zero n = absurd (n refl)
 kind-of-name (suc j) n = refl
 
 -- the row as it is put together
-module _ (specs name : Text) (i field kind : ℕ) (source destination : RowText) (e : kind ≡ kindOf field) (d : Text) (at : ℕ) where
-  pub field-room : at + length (rowBytes (rowMeant specs name field i (kindOf field) source destination)) ≤ length d → at + length (rowBytes (rowMeant specs name field i kind source destination)) ≤ length d
+module _ (specs name : Text) (i field kind : ℕ) (source destination : RowText) (e : kind ≡ fieldKind field) (d : Text) (at : ℕ) where
+  pub field-room : at + length (rowBytes (rowOfTexts specs name field i (fieldKind field) source destination)) ≤ length d → at + length (rowBytes (rowOfTexts specs name field i kind source destination)) ≤ length d
   field-room h = rw e h
 
-  pub field-put : (o : Text) (n : ℕ) → o ≡ splice d at (rowBytes (rowMeant specs name field i kind source destination)) → n ≡ at + length (rowBytes (rowMeant specs name field i kind source destination))
-      → Put d at (rowBytes (rowMeant specs name field i (kindOf field) source destination)) o n
+  pub field-put : (o : Text) (n : ℕ) → o ≡ splice d at (rowBytes (rowOfTexts specs name field i kind source destination)) → n ≡ at + length (rowBytes (rowOfTexts specs name field i kind source destination))
+      → Put d at (rowBytes (rowOfTexts specs name field i (fieldKind field) source destination)) o n
   field-put o n p q = record { puts = rw e at p; ends = rw e at q }
 
 -- a row that takes bytes is the one of its item field, whatever is gone

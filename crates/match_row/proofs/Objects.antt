@@ -14,11 +14,11 @@ use Rattle.matcher.specs.declared.types.Ends.{Ends}
 use Rattle.matcher.specs.declared.types.Ends.the-variants.{Nothing, Row as Found}
 use Rattle.matcher.specs.Matching.{rowTextMeant, endsMeant, RowTextWithin, EndsWithin, Matches, objectEnds}
 use Rattle.match_one.proofs.Objects.{object-rows}
-use Rattle.row.specs.Rows.{ShortTexts, rowMeant}
-use Rattle.match_row.specs.Pairs.{specOf, objectBytes}
-use Rattle.match_row.specs.Asking.{Ready}
+use Rattle.row.specs.Rows.{ShortTexts, rowOfTexts}
+use Rattle.match_row.specs.Pairs.{matcherSpec, objectBytes}
+use Rattle.match_row.specs.Asking.{MatcherReady}
 
-pub nothing-lent : (specs : Text) (m : Matcher) → Ready specs m → ShortTexts specs []
+pub nothing-lent : (specs : Text) (m : Matcher) → MatcherReady specs m → ShortTexts specs []
 nothing-lent specs m r = record { specs-short = r .specs-short; name-short = omega arith }
 
 module _ (len : ℕ) (e : Ends) (w : EndsWithin len 0 e) (source destination : RowText) (is : e ≡ Found source destination) where
@@ -31,15 +31,15 @@ module _ (len : ℕ) (e : Ends) (w : EndsWithin len 0 e) (source destination : R
   pub object-destination-within : RowTextWithin len 0 destination
   object-destination-within = both .1
 
-module _ (specs : Text) (m : Matcher) (ready : Ready specs m) (i : ℕ) (e : Ends) (told : (s : Spec) → Matches specs s m → endsMeant specs [] e ≡ objectEnds s) where
-  pub object-none : e ≡ Nothing → 0 ≡ length (objectBytes i (specOf specs m))
+module _ (specs : Text) (m : Matcher) (ready : MatcherReady specs m) (i : ℕ) (e : Ends) (told : (s : Spec) → Matches specs s m → endsMeant specs [] e ≡ objectEnds s) where
+  pub object-none : e ≡ Nothing → 0 ≡ length (objectBytes i (matcherSpec specs m))
   unfolding objectBytes rowListOf
   object-none h =
-      let q : objectEnds (specOf specs m) ≡ none = sym (told (specOf specs m) (ready .matches)) ∙ ap (endsMeant specs []) h in
-      rw (object-rows i (specOf specs m), q)
+      let q : objectEnds (matcherSpec specs m) ≡ none = sym (told (matcherSpec specs m) (ready .matches)) ∙ ap (endsMeant specs []) h in
+      rw (object-rows i (matcherSpec specs m), q)
 
-  pub object-size : (source destination : RowText) → e ≡ Found source destination → (n : ℕ) → n ≡ length (rowBytes (rowMeant specs [] 0 i 1 source destination)) → n ≡ length (objectBytes i (specOf specs m))
-  unfolding objectBytes rowListOf rowMeant
+  pub object-size : (source destination : RowText) → e ≡ Found source destination → (n : ℕ) → n ≡ length (rowBytes (rowOfTexts specs [] 0 i 1 source destination)) → n ≡ length (objectBytes i (matcherSpec specs m))
+  unfolding objectBytes rowListOf rowOfTexts
   object-size source destination is n h =
-      let q : objectEnds (specOf specs m) ≡ some (record { source = orEmpty (rowTextMeant specs [] source); destination = rowTextMeant specs [] destination }) = sym (told (specOf specs m) (ready .matches)) ∙ ap (endsMeant specs []) is in
-      rw (object-rows i (specOf specs m), q, append-nil) h
+      let q : objectEnds (matcherSpec specs m) ≡ some (record { source = orEmpty (rowTextMeant specs [] source); destination = rowTextMeant specs [] destination }) = sym (told (matcherSpec specs m) (ready .matches)) ∙ ap (endsMeant specs []) is in
+      rw (object-rows i (matcherSpec specs m), q, append-nil) h

@@ -11,7 +11,7 @@ use Rattle.buffer.proofs.Splices.{splice-start}
 use Rattle.parse.proofs.Parts.{part-of}
 use Rattle.matcher.specs.declared.types.Filled.{Filled}
 use Rattle.matcher.specs.declared.types.RowText.{RowText}
-use Rattle.matcher.specs.declared.types.RowText.the-variants as made
+use Rattle.matcher.specs.declared.types.RowText.the-variants as row-text
 use Rattle.matcher.specs.Matching.{filledText, rowTextMeant, RowTextWithin, FilledWithin}
 use Rattle.negatives.specs.Negatives.{excludedBy}
 
@@ -28,10 +28,10 @@ module _ (d t o : Text) (n : ℕ) (size : n ≡ length t) (e : o ≡ splice d 0 
 
 -- the source of a row
 module _ (specs name : Text) (table : List ℕ) (count : ℕ) (source : RowText) where
-  pub name-asked : source ≡ made.Name → (r : Bool) → r ≡ excludedBy specs table count name → r ≡ excludedBy specs table count (orEmpty (rowTextMeant specs name source))
+  pub name-asked : source ≡ row-text.Name → (r : Bool) → r ≡ excludedBy specs table count name → r ≡ excludedBy specs table count (orEmpty (rowTextMeant specs name source))
   name-asked e r h = rw e h
 
-  pub filled-asked : (f : Filled) → source ≡ made.Filled f → (r : Bool) → r ≡ excludedBy specs table count (filledText specs name f) → r ≡ excludedBy specs table count (orEmpty (rowTextMeant specs name source))
+  pub filled-asked : (f : Filled) → source ≡ row-text.Filled f → (r : Bool) → r ≡ excludedBy specs table count (filledText specs name f) → r ≡ excludedBy specs table count (orEmpty (rowTextMeant specs name source))
   filled-asked f e r h = rw e h
 
 -- the pieces of a pattern as they are lent
@@ -40,5 +40,5 @@ pub pieces-asked : (specs name : Text) (table : List ℕ) (count : ℕ) (f : Fil
     → r ≡ excludedBy specs table count (filledText specs name f)
 pieces-asked specs name table count f r h = rw (part-of specs (f .start) (f .«start_len»), part-of name (f .from) (f .len), part-of specs (f .end) (f .«end_len»)) at h
 
-pub filled-within : (source : RowText) (f : Filled) → source ≡ made.Filled f → (n k : ℕ) → RowTextWithin n k source → FilledWithin n k f
+pub filled-within : (source : RowText) (f : Filled) → source ≡ row-text.Filled f → (n k : ℕ) → RowTextWithin n k source → FilledWithin n k f
 filled-within source f e n k w = rw e at w

@@ -6,7 +6,7 @@ use mathlib.Core.Option.{some}
 use mathlib.Core.List.{List}
 use lib.ListN.{length}
 use Rattle.meaning.specs.Bytes.{Text}
-use Rattle.meaning.specs.Limits.{specListBytes, specBytes, nameBytes}
+use Rattle.meaning.specs.Limits.{specListBytes, specBytes}
 use Rattle.meaning.specs.Listing as listing
 use Rattle.parse.specs.Places.{sideMeant}
 use Rattle.buffer.specs.Splice.{splice}
@@ -14,11 +14,7 @@ use Rattle.matcher.specs.declared.types.Matcher.{Matcher}
 use Rattle.matcher.specs.declared.types.Ends.{Ends}
 use Rattle.matcher.specs.Matching.{endsMeant, EndsWithin, Matches}
 use Rattle.negatives.specs.Negatives.{negativeNumbers, negativeAt, NegativeWithin}
-use Rattle.match_row.specs.Pairs.{specOf, endsIn, fieldEnds}
-
--- the source of a row has at most so many bytes: an accepted spec's source and a name
-abbrev pub sourceMost : ℕ
-sourceMost = specBytes + nameBytes
+use Rattle.match_row.specs.Pairs.{matcherSpec, endsIn, fieldEnds}
 
 -- the negatives of a group can be asked
 pub record Askable (specs : Text) (negatives : List ℕ) (count : ℕ) : Type 0 where
@@ -26,19 +22,19 @@ pub record Askable (specs : Text) (negatives : List ℕ) (count : ℕ) : Type 0 
   pub within : (k : ℕ) → k < count → NegativeWithin (length specs) (negativeAt negatives k)
 
 -- a matcher is that of the spec it stands for, whose source is no longer than an accepted one's
-pub record Ready (specs : Text) (m : Matcher) : Type 0 where
+pub record MatcherReady (specs : Text) (m : Matcher) : Type 0 where
   pub specs-short : length specs ≤ specListBytes
-  pub matches : Matches specs (specOf specs m) m
+  pub matches : Matches specs (matcherSpec specs m) m
   pub short : (t : Text) → sideMeant specs (m .src) ≡ some t → length t ≤ specBytes
 
 -- the ends of a row, as the spec of a matcher makes them of a name
 pub record EndsTold (back : Bool) (specs name : Text) (m : Matcher) (e : Ends) : Type 0 where
-  pub told : endsMeant specs name e ≡ endsIn back (specOf specs m) name
+  pub told : endsMeant specs name e ≡ endsIn back (matcherSpec specs m) name
   pub within : EndsWithin (length specs) (length name) e
 
 -- the ends of the row with this item field, of a name of so many bytes that has one
 pub record FieldTold (back : Bool) (specs : Text) (m : Matcher) (field n : ℕ) (e : Ends) : Type 0 where
-  pub told : (name : Text) → length name ≡ n → (r : listing.Ends) → fieldEnds back (specOf specs m) field name ≡ some r → endsMeant specs name e ≡ some r
+  pub told : (name : Text) → length name ≡ n → (r : listing.Ends) → fieldEnds back (matcherSpec specs m) field name ≡ some r → endsMeant specs name e ≡ some r
   pub within : EndsWithin (length specs) n e
 
 -- a text was written from a place on, and ends at another

@@ -12,11 +12,11 @@ use Rattle.parse.specs.Places.{sideMeant}
 use Rattle.matcher.specs.declared.types.Matcher.{Matcher}
 use Rattle.matcher.specs.declared.types.RowText.{RowText}
 use Rattle.matcher.specs.Matching.{rowTextMeant, objectEnds}
-use Rattle.row.specs.Rows.{rowMeant}
+use Rattle.row.specs.Rows.{rowOfTexts}
 
 -- the spec that a matcher stands for: no sign matters to it
-abbrev pub specOf : Text → Matcher → Spec
-specOf specs m = record { mode = Mode.Normal; source = sideMeant specs (m .src); destination = sideMeant specs (m .dst) }
+abbrev pub matcherSpec : Text → Matcher → Spec
+matcherSpec specs m = record { mode = Mode.Normal; source = sideMeant specs (m .src); destination = sideMeant specs (m .dst) }
 
 -- the ends that a spec makes of a name, forward or in reverse
 abbrev pub endsIn : Bool → Spec → Text → Option Ends
@@ -36,9 +36,9 @@ unfoldable pub objectBytes : ℕ → Spec → Text
 objectBytes i s = rowListOf (objectRows (i, s))
 
 -- the source kind of a row by its item field: 0 stands for no item, and the source is then an object
-abbrev pub kindOf : ℕ → ℕ
-kindOf zero = 1
-kindOf (suc j) = 0
+abbrev pub fieldKind : ℕ → ℕ
+fieldKind zero = 1
+fieldKind (suc j) = 0
 
 -- the ends of the row of spec i that has this item field
 abbrev pub fieldEnds : Bool → Spec → ℕ → Text → Option Ends
@@ -47,7 +47,7 @@ fieldEnds back s (suc j) name = endsIn back s name
 
 -- the row of such ends
 abbrev pub fieldRow : ℕ → ℕ → Ends → meaning.Row
-fieldRow i field e = record { item = field; spec = i; kind = kindOf field; source = e .source; destination = e .destination }
+fieldRow i field e = record { item = field; spec = i; kind = fieldKind field; source = e .source; destination = e .destination }
 
 -- that row, if there are ends
 abbrev pub givenRow : ℕ → ℕ → Option Ends → List meaning.Row
@@ -59,6 +59,6 @@ unfoldable pub fieldBytes : Bool → ℕ → ℕ → Text → Spec → Text
 fieldBytes back i field name s = each (givenRow i field (fieldEnds back s field name)) rowBytes
 
 -- the bytes of the row of item j under spec i, unless its source is gone
-abbrev pub keptBytes : (Text → Bool) → ℕ → ℕ → Text → Text → RowText → RowText → Text
-keptBytes gone i j s name source destination =
-    cond (gone (orEmpty (rowTextMeant s name source))) [] (rowBytes (rowMeant s name (suc j) i 0 source destination))
+abbrev pub remainingBytes : (Text → Bool) → ℕ → ℕ → Text → Text → RowText → RowText → Text
+remainingBytes gone i j s name source destination =
+    cond (gone (orEmpty (rowTextMeant s name source))) [] (rowBytes (rowOfTexts s name (suc j) i 0 source destination))

@@ -3,21 +3,18 @@ ghost use mathlib.Core.Path.{_≡_};
 ghost use Prim.Native.Nat.{_≤_};
 ghost use lib.ListN.{length};
 ghost use Rattle.meaning.specs.Bytes.{orEmpty};
+ghost use Rattle.meaning.specs.Limits.{mappedBytes};
 ghost use Rattle.matcher.specs.Matching.{filledText, rowTextMeant, RowTextWithin, FilledWithin};
 ghost use Rattle.negatives.specs.Negatives.{excludedBy};
 ghost use Rattle.row.specs.Rows.{ShortTexts};
-ghost use Rattle.match_row.specs.Asking.{sourceMost, Askable};
-use limits::NAME_BYTES;
-use limits::SPEC_BYTES;
+ghost use Rattle.match_row.specs.Asking.{Askable};
+use limits::MAPPED_BYTES;
 use matcher::types::Filled;
 use matcher::types::RowText;
 use negatives::excluded;
 use negatives::excluded_pieces;
 use row_text::put_row_text;
 use row_text::row_text_size;
-
-// The source of a row has at most so many bytes.
-const SOURCE_MOST: usize = SPEC_BYTES + NAME_BYTES;
 
 // A negative matches a source that is put together in `scratch`.
 fn put_removed(
@@ -38,10 +35,10 @@ fn put_removed(
 
 // A negative matches a source that stands nowhere in one piece and in no three.
 fn text_removed(specs: &[u8], name: &[u8], source: RowText, negatives: &[u16], count: usize) -> bool
-    requires { ⌜ ShortTexts (now specs) (now name) × RowTextWithin (length (now specs)) (length (now name)) source × Askable (now specs) (now negatives) count × (length (orEmpty (rowTextMeant (now specs) (now name) source)) ≤ sourceMost) ⌝ }
+    requires { ⌜ ShortTexts (now specs) (now name) × RowTextWithin (length (now specs)) (length (now name)) source × Askable (now specs) (now negatives) count × (length (orEmpty (rowTextMeant (now specs) (now name) source)) ≤ mappedBytes) ⌝ }
     ensures { λ r. ⌜ r ≡ excludedBy (now (specs .entry)) (now (negatives .entry)) count (orEmpty (rowTextMeant (now (specs .entry)) (now (name .entry)) source)) ⌝ }
 {
-    let mut scratch = [0; SOURCE_MOST];
+    let mut scratch = [0; MAPPED_BYTES];
     put_removed(specs, name, source, negatives, count, &mut scratch)
 }
 
@@ -74,7 +71,7 @@ pub(crate) fn removed(
     negatives: &[u16],
     count: usize,
 ) -> bool
-    requires { ⌜ ShortTexts (now specs) (now name) × RowTextWithin (length (now specs)) (length (now name)) source × Askable (now specs) (now negatives) count × (length (orEmpty (rowTextMeant (now specs) (now name) source)) ≤ sourceMost) ⌝ }
+    requires { ⌜ ShortTexts (now specs) (now name) × RowTextWithin (length (now specs)) (length (now name)) source × Askable (now specs) (now negatives) count × (length (orEmpty (rowTextMeant (now specs) (now name) source)) ≤ mappedBytes) ⌝ }
     ensures { λ r. ⌜ r ≡ excludedBy (now (specs .entry)) (now (negatives .entry)) count (orEmpty (rowTextMeant (now (specs .entry)) (now (name .entry)) source)) ⌝ }
 {
     if count == 0 {

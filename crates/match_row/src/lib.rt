@@ -4,13 +4,13 @@ ghost use mathlib.Core.List.{[]};
 ghost use Prim.Native.Nat.{_+_, _≤_, _<_};
 ghost use lib.ListN.{length};
 ghost use Rattle.meaning.specs.Bytes.{orEmpty};
-ghost use Rattle.meaning.specs.Limits.{itemCount, specCount, nameBytes};
+ghost use Rattle.meaning.specs.Limits.{itemCount, specCount, nameBytes, mappedBytes};
 ghost use Rattle.meaning.specs.Rows.{rowBytes};
 ghost use Rattle.matcher.specs.Matching.{rowTextMeant, RowTextWithin};
 ghost use Rattle.negatives.specs.Negatives.{excludedBy};
-ghost use Rattle.row.specs.Rows.{ShortTexts, rowMeant, rowMost};
-ghost use Rattle.match_row.specs.Pairs.{specOf, itemBytes, objectBytes, kindOf, fieldBytes, keptBytes};
-ghost use Rattle.match_row.specs.Asking.{sourceMost, Askable, Ready, EndsTold, FieldTold, Put};
+ghost use Rattle.row.specs.Rows.{ShortTexts, rowOfTexts, rowMost};
+ghost use Rattle.match_row.specs.Pairs.{matcherSpec, itemBytes, objectBytes, fieldKind, fieldBytes, remainingBytes};
+ghost use Rattle.match_row.specs.Asking.{Askable, MatcherReady, EndsTold, FieldTold, Put};
 
 mod gone;
 
@@ -29,7 +29,7 @@ use row::row_size;
 
 // The ends that a spec makes of a name, forward or in reverse.
 fn ends(back: bool, specs: &[u8], m: Matcher, name: &[u8]) -> Ends
-    requires { ⌜ Ready (now specs) m ⌝ }
+    requires { ⌜ MatcherReady (now specs) m ⌝ }
     ensures { λ r. ⌜ EndsTold back (now (specs .entry)) (now (name .entry)) m r ⌝ }
 {
     if back {
@@ -49,8 +49,8 @@ fn kept_size(
     negatives: &[u16],
     count: usize,
 ) -> usize
-    requires { ⌜ ShortTexts (now specs) (now name) × Askable (now specs) (now negatives) count × (i ≤ specCount) × (j < itemCount) × RowTextWithin (length (now specs)) (length (now name)) source × RowTextWithin (length (now specs)) (length (now name)) destination × (length (orEmpty (rowTextMeant (now specs) (now name) source)) ≤ sourceMost) ⌝ }
-    ensures { λ r. ⌜ (r ≡ length (keptBytes (excludedBy (now (specs .entry)) (now (negatives .entry)) count) i j (now (specs .entry)) (now (name .entry)) source destination)) × (r ≤ rowMost) ⌝ }
+    requires { ⌜ ShortTexts (now specs) (now name) × Askable (now specs) (now negatives) count × (i ≤ specCount) × (j < itemCount) × RowTextWithin (length (now specs)) (length (now name)) source × RowTextWithin (length (now specs)) (length (now name)) destination × (length (orEmpty (rowTextMeant (now specs) (now name) source)) ≤ mappedBytes) ⌝ }
+    ensures { λ r. ⌜ (r ≡ length (remainingBytes (excludedBy (now (specs .entry)) (now (negatives .entry)) count) i j (now (specs .entry)) (now (name .entry)) source destination)) × (r ≤ rowMost) ⌝ }
 {
     if removed(specs, name, source, negatives, count) {
         return 0;
@@ -75,8 +75,8 @@ pub fn item_size(
     negatives: &[u16],
     count: usize,
 ) -> usize
-    requires { ⌜ Ready (now specs) m × Askable (now specs) (now negatives) count × (i ≤ specCount) × (j < itemCount) × (length (now name) ≤ nameBytes) ⌝ }
-    ensures { λ r. ⌜ (r ≡ length (itemBytes back (excludedBy (now (specs .entry)) (now (negatives .entry)) count) i j (now (name .entry)) (specOf (now (specs .entry)) m))) × (r ≤ rowMost) ⌝ }
+    requires { ⌜ MatcherReady (now specs) m × Askable (now specs) (now negatives) count × (i ≤ specCount) × (j < itemCount) × (length (now name) ≤ nameBytes) ⌝ }
+    ensures { λ r. ⌜ (r ≡ length (itemBytes back (excludedBy (now (specs .entry)) (now (negatives .entry)) count) i j (now (name .entry)) (matcherSpec (now (specs .entry)) m))) × (r ≤ rowMost) ⌝ }
 {
     match ends(back, specs, m, name) {
         Ends::Nothing => 0,
@@ -90,7 +90,7 @@ pub fn item_size(
 // How many bytes the row of an object source of spec i takes that has these texts.
 fn object_row_size(specs: &[u8], i: usize, source: RowText, destination: RowText) -> usize
     requires { ⌜ ShortTexts (now specs) [] × (i ≤ specCount) × RowTextWithin (length (now specs)) 0 source × RowTextWithin (length (now specs)) 0 destination ⌝ }
-    ensures { λ r. ⌜ (r ≡ length (rowBytes (rowMeant (now (specs .entry)) [] 0 i 1 source destination))) × (r ≤ rowMost) ⌝ }
+    ensures { λ r. ⌜ (r ≡ length (rowBytes (rowOfTexts (now (specs .entry)) [] 0 i 1 source destination))) × (r ≤ rowMost) ⌝ }
 {
     let numbers = Numbers {
         item: 0,
@@ -102,8 +102,8 @@ fn object_row_size(specs: &[u8], i: usize, source: RowText, destination: RowText
 
 // How many bytes the row of spec i takes as an object source; any other spec has none.
 pub fn object_size(specs: &[u8], m: Matcher, i: usize) -> usize
-    requires { ⌜ Ready (now specs) m × (i ≤ specCount) ⌝ }
-    ensures { λ r. ⌜ (r ≡ length (objectBytes i (specOf (now (specs .entry)) m))) × (r ≤ rowMost) ⌝ }
+    requires { ⌜ MatcherReady (now specs) m × (i ≤ specCount) ⌝ }
+    ensures { λ r. ⌜ (r ≡ length (objectBytes i (matcherSpec (now (specs .entry)) m))) × (r ≤ rowMost) ⌝ }
 {
     match object(specs, m) {
         Ends::Nothing => 0,
@@ -116,7 +116,7 @@ pub fn object_size(specs: &[u8], m: Matcher, i: usize) -> usize
 
 // The ends of the row with this item field, of a name of n bytes that has one.
 fn field_ends(back: bool, specs: &[u8], m: Matcher, field: usize, n: usize) -> Ends
-    requires { ⌜ Ready (now specs) m × (n ≤ nameBytes) × (field ≡ 0 → n ≡ 0) ⌝ }
+    requires { ⌜ MatcherReady (now specs) m × (n ≤ nameBytes) × (field ≡ 0 → n ≡ 0) ⌝ }
     ensures { λ r. ⌜ FieldTold back (now (specs .entry)) m field n r ⌝ }
 {
     if field == 0 {
@@ -130,7 +130,7 @@ fn field_ends(back: bool, specs: &[u8], m: Matcher, field: usize, n: usize) -> E
 
 // The source kind of a row by its item field.
 fn kind_of(field: usize) -> usize
-    ensures { λ r. ⌜ (r ≡ kindOf field) × (r ≤ 1) ⌝ }
+    ensures { λ r. ⌜ (r ≡ fieldKind field) × (r ≤ 1) ⌝ }
 {
     if field == 0 {
         return 1;
@@ -149,8 +149,8 @@ fn put_ends(
     source: RowText,
     destination: RowText,
 ) -> usize
-    requires { ⌜ ShortTexts (now specs) (now name) × (i ≤ specCount) × (field ≤ itemCount) × RowTextWithin (length (now specs)) (length (now name)) source × RowTextWithin (length (now specs)) (length (now name)) destination × (at + length (rowBytes (rowMeant (now specs) (now name) field i (kindOf field) source destination)) ≤ length (now out)) ⌝ }
-    ensures { λ r. ⌜ Put (now (out .entry)) at (rowBytes (rowMeant (now (specs .entry)) (now (name .entry)) field i (kindOf field) source destination)) (now (out .exit)) r ⌝ }
+    requires { ⌜ ShortTexts (now specs) (now name) × (i ≤ specCount) × (field ≤ itemCount) × RowTextWithin (length (now specs)) (length (now name)) source × RowTextWithin (length (now specs)) (length (now name)) destination × (at + length (rowBytes (rowOfTexts (now specs) (now name) field i (fieldKind field) source destination)) ≤ length (now out)) ⌝ }
+    ensures { λ r. ⌜ Put (now (out .entry)) at (rowBytes (rowOfTexts (now (specs .entry)) (now (name .entry)) field i (fieldKind field) source destination)) (now (out .exit)) r ⌝ }
 {
     let numbers = Numbers {
         item: field,
@@ -171,8 +171,8 @@ pub fn put_field(
     field: usize,
     name: &[u8],
 ) -> usize
-    requires { ⌜ Ready (now specs) m × (i ≤ specCount) × (field ≤ itemCount) × (length (now name) ≤ nameBytes) × (field ≡ 0 → length (now name) ≡ 0) × (0 < length (fieldBytes back i field (now name) (specOf (now specs) m))) × (at + length (fieldBytes back i field (now name) (specOf (now specs) m)) ≤ length (now out)) ⌝ }
-    ensures { λ r. ⌜ Put (now (out .entry)) at (fieldBytes back i field (now (name .entry)) (specOf (now (specs .entry)) m)) (now (out .exit)) r ⌝ }
+    requires { ⌜ MatcherReady (now specs) m × (i ≤ specCount) × (field ≤ itemCount) × (length (now name) ≤ nameBytes) × (field ≡ 0 → length (now name) ≡ 0) × (0 < length (fieldBytes back i field (now name) (matcherSpec (now specs) m))) × (at + length (fieldBytes back i field (now name) (matcherSpec (now specs) m)) ≤ length (now out)) ⌝ }
+    ensures { λ r. ⌜ Put (now (out .entry)) at (fieldBytes back i field (now (name .entry)) (matcherSpec (now (specs .entry)) m)) (now (out .exit)) r ⌝ }
 {
     match field_ends(back, specs, m, field, name.len()) {
         Ends::Nothing => at,

@@ -23,7 +23,7 @@ use Rattle.matcher.specs.declared.types.Target.the-variants as target
 use Rattle.matcher.specs.declared.types.Matcher.{Matcher}
 use Rattle.matcher.specs.declared.types.Filled.{Filled}
 use Rattle.matcher.specs.declared.types.RowText.{RowText}
-use Rattle.matcher.specs.declared.types.RowText.the-variants as made
+use Rattle.matcher.specs.declared.types.RowText.the-variants as row-text
 use Rattle.matcher.specs.declared.types.Ends.{Ends}
 use Rattle.matcher.specs.declared.types.Ends.the-variants as ends
 
@@ -41,10 +41,10 @@ filledText specs name f = partAt specs (f .start) (f .«start_len») ++ (partAt 
 
 -- the text that a match makes, by the bytes of the spec list and the name
 abbrev pub rowTextMeant : Text → Text → RowText → Option Text
-rowTextMeant specs name made.Absent = none
-rowTextMeant specs name made.Name = some name
-rowTextMeant specs name (made.Led l s) = some (ledText l (sideText specs s))
-rowTextMeant specs name (made.Filled f) = some (filledText specs name f)
+rowTextMeant specs name row-text.Absent = none
+rowTextMeant specs name row-text.Name = some name
+rowTextMeant specs name (row-text.Led l s) = some (ledText l (sideText specs s))
+rowTextMeant specs name (row-text.Filled f) = some (filledText specs name f)
 
 -- the ends of a row
 abbrev pub endsMeant : Text → Text → Ends → Option listing.Ends
@@ -79,10 +79,10 @@ pub record FilledWithin (len nameLen : ℕ) (f : Filled) : Type 0 where
 
 -- the places of a text that a match makes stand within so many bytes of a spec list and of a name
 abbrev pub RowTextWithin : ℕ → ℕ → RowText → Type 0
-RowTextWithin len nameLen made.Absent = Unit {0}
-RowTextWithin len nameLen made.Name = Unit {0}
-RowTextWithin len nameLen (made.Led l s) = Within len s
-RowTextWithin len nameLen (made.Filled f) = FilledWithin len nameLen f
+RowTextWithin len nameLen row-text.Absent = Unit {0}
+RowTextWithin len nameLen row-text.Name = Unit {0}
+RowTextWithin len nameLen (row-text.Led l s) = Within len s
+RowTextWithin len nameLen (row-text.Filled f) = FilledWithin len nameLen f
 
 -- the places of a row's ends
 abbrev pub EndsWithin : ℕ → ℕ → Ends → Type 0

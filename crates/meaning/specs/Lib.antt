@@ -1,7 +1,7 @@
 -- The meaning of document 01, on bytes. Read from the top: each file rests on those above it. A name in camelCase is a definition, one
 -- in kebab-case a fact, also where it is a field of a record.
-pub mod Bytes
 pub mod Limits
+pub mod Bytes
 pub mod Names
 pub mod Spec
 pub mod Buffers

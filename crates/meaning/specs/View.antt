@@ -32,8 +32,8 @@ fromRecord zero list = leftBy (readNumber list)
 fromRecord (suc n) list = fromRecord n (leftBy (readText list))
 
 -- the part of a list that begins where so much of the list is left
-abbrev pub partAt : Lent → Text → Text → ℕ → Part
-partAt which list rest size = record { list = which; start = length list - length rest; size = size }
+abbrev pub partFrom : Lent → Text → Text → ℕ → Part
+partFrom which list rest size = record { list = which; start = length list - length rest; size = size }
 
 -- member number n of a list, if there is one
 abbrev pub nth : {A : Type 0} → List A → ℕ → Option A
@@ -44,12 +44,12 @@ nth (x ∷ l) (suc n) = nth l n
 -- the digits of an object source as the spec spells them: they begin after the sign. 16 where the source is no object id
 abbrev pub digitsPart : Text → ℕ → Option Text → Answer Part
 digitsPart specs i none = refused 16 none
-digitsPart specs i (some t) = accepted (partAt specList specs (unsigned (fromRecord i specs)) (length t))
+digitsPart specs i (some t) = accepted (partFrom specList specs (unsigned (fromRecord i specs)) (length t))
 
 -- an item's name, 16 where there is none
 abbrev pub itemPart : Text → ℕ → Option Text → Answer Part
 itemPart items j none = refused 16 none
-itemPart items j (some t) = accepted (partAt itemList items (fromRecord j items) (length t))
+itemPart items j (some t) = accepted (partFrom itemList items (fromRecord j items) (length t))
 
 -- field 0 takes the digits of the spec's object source, a higher field that item's name; 16 for a spec outside the list
 abbrev pub viewOf : Text → Text → Option Spec → List Text → ℕ → ℕ → Answer Part

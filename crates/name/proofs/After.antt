@@ -11,7 +11,7 @@ use Rattle.meaning.specs.Bytes.{Text, bytes, same, begins}
 use Rattle.text.proofs.Rests.{rest-cons, rest-end, rest-part}
 use Rattle.text.proofs.Rows.{and-true}
 use Rattle.compare.proofs.Sames.{eqb-swap}
-use Rattle.name.specs.Rules.{nameByte, restOfLock, afterDot, afterSlash, afterAt, stands}
+use Rattle.name.specs.Rules.{nameByte, restOfLock, afterDot, afterSlash, afterAtSign, stands}
 
 module _ (s : Text) (r : Bool) (e : r ≡ same s (bytes "lock")) where
   pub lock-whole : r ≡ true → true ≡ restOfLock s
@@ -31,8 +31,8 @@ module _ (s : Text) (at : ℕ) where
   unfolding afterSlash
   slash-end e = rw (rest-end s at (omega arith))
 
-  pub at-end : at ≡ length s → true ≡ afterAt (drop at s)
-  unfolding afterAt
+  pub at-end : at ≡ length s → true ≡ afterAtSign (drop at s)
+  unfolding afterAtSign
   at-end e = rw (rest-end s at (omega arith))
 
   module _ (within : at ≤ length s) (some : at ≡ length s → ⊥) where
@@ -58,8 +58,8 @@ module _ (s : Text) (at : ℕ) where
     unfolding afterSlash
     slash-dot n = rw (rest-is, ne-eqb 47 (getD s at 0) (λ q. n (sym q)), eqb-swap (getD s at 0) 46, and-true)
 
-    pub at-brace : not (eqb (getD s at 0) 123) ≡ afterAt (drop at s)
-    unfolding afterAt
+    pub at-brace : not (eqb (getD s at 0) 123) ≡ afterAtSign (drop at s)
+    unfolding afterAtSign
     at-brace = rw (rest-is, eqb-swap (getD s at 0) 123, and-true)
 
 -- a dot, a slash and an `@` stand by what follows them, and any other byte by itself
@@ -72,7 +72,7 @@ module _ (x : ℕ) (s : Text) (r : Bool) where
   unfolding stands
   stands-slash e h = rw e h
 
-  pub stands-at : x ≡ 64 → r ≡ afterAt s → r ≡ stands x s
+  pub stands-at : x ≡ 64 → r ≡ afterAtSign s → r ≡ stands x s
   unfolding stands
   stands-at e h = rw e h
 

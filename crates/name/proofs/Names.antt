@@ -8,7 +8,7 @@ use lib.Dec.{eqb}
 use Rattle.meaning.specs.Bytes.{Text, bytes, _and_, empty, same, begins, ends, holds}
 use Rattle.meaning.specs.Names.{noTwoDots, ruleFourByte, noControls, ruleFiveByte, noGlobs, slashesPass, noLastDot, noAtBrace, notAt, noBackslash, namePasses}
 use Rattle.text.proofs.Rows.{and-true}
-use Rattle.name.specs.Rules.{nameByte, restOfLock, afterDot, afterSlash, afterAt, stands}
+use Rattle.name.specs.Rules.{nameByte, restOfLock, afterDot, afterSlash, afterAtSign, stands}
 use Rattle.name.proofs.Tails.{tails, join, alike, every-tails, lacks-tails, holds-tails, ends-tails}
 use Rattle.name.proofs.Parts.{partRule, parts-tails}
 
@@ -77,15 +77,15 @@ module _ (s : Text) where
   unfolding afterSlash ruleFourByte ruleFiveByte
   rules-slash = rw (same-none s) (slash-row (begins (bytes ".") s) (empty s) (begins (bytes "/") s))
 
-  rules-at : rules 64 s ≡ afterAt s
-  unfolding afterAt ruleFourByte ruleFiveByte
+  rules-at : rules 64 s ≡ afterAtSign s
+  unfolding afterAtSign ruleFourByte ruleFiveByte
   rules-at = and-true (not (begins (bytes "{") s))
 
   rules-stand : (x : ℕ) → rules x s ≡ stands x s
   unfolding stands nameByte
   rules-stand x = go (eqb 46 x) (eqb 47 x) (eqb 64 x) refl refl refl
     where
-      go : (a b c : Bool) → eqb 46 x ≡ a → eqb 47 x ≡ b → eqb 64 x ≡ c → rules x s ≡ cond a (afterDot s) (cond b (afterSlash s) (cond c (afterAt s) (nameByte x)))
+      go : (a b c : Bool) → eqb 46 x ≡ a → eqb 47 x ≡ b → eqb 64 x ≡ c → rules x s ≡ cond a (afterDot s) (cond b (afterSlash s) (cond c (afterAtSign s) (nameByte x)))
       go true b c d e f = ap (λ (k : ℕ). rules k s) (sym (eqb-true 46 x d)) ∙ rules-dot
       go false true c d e f = ap (λ (k : ℕ). rules k s) (sym (eqb-true 47 x e)) ∙ rules-slash
       go false false true d e f = ap (λ (k : ℕ). rules k s) (sym (eqb-true 64 x f)) ∙ rules-at

@@ -16,7 +16,7 @@ use Rattle.text.proofs.Classes.{atSpan, span}
 use Rattle.text.proofs.Rests.{rest-cons, rest-end}
 use Rattle.name.specs.declared.NameKind.{NameKind}
 use Rattle.name.specs.declared.NameKind.the-variants.{Name, Pattern, Neither}
-use Rattle.name.specs.Rules.{nameByte, letter, capital, digit, afterDot, afterSlash, afterAt, stands, standing, kindByStars, kindOf}
+use Rattle.name.specs.Rules.{nameByte, letter, capital, digit, afterDot, afterSlash, afterAtSign, stands, standing, kindByStars, kindOf}
 use Rattle.name.proofs.Tails.{tails}
 use Rattle.name.proofs.Stars.{starOrStands, side-row}
 
@@ -30,7 +30,7 @@ anywhere-stands : (x : ℕ) (s : Text) → true ≡ anywhere x → stands x s �
 unfolding stands
 anywhere-stands x s e = go (eqb 46 x) (eqb 47 x) (eqb 64 x) e
   where
-    go : (a b c : Bool) → true ≡ (not a and (not b and (not c and nameByte x))) → cond a (afterDot s) (cond b (afterSlash s) (cond c (afterAt s) (nameByte x))) ≡ true
+    go : (a b c : Bool) → true ≡ (not a and (not b and (not c and nameByte x))) → cond a (afterDot s) (cond b (afterSlash s) (cond c (afterAtSign s) (nameByte x))) ≡ true
     go true b c e = absurd (true≢false e)
     go false true c e = absurd (true≢false e)
     go false false true e = absurd (true≢false e)

@@ -8,7 +8,7 @@ use lib.Dec.{T, eqb}
 use Rattle.meaning.specs.Bytes.{Text, bytes, star, _and_, _or_, every, empty, same, begins, hasByte}
 use Rattle.meaning.specs.Names.{ruleFourByte, ruleFiveByte, notAt, starAsLetter, sidePasses}
 use Rattle.compare.proofs.Sames.{same-swap}
-use Rattle.name.specs.Rules.{nameByte, restOfLock, afterDot, afterSlash, afterAt, stands}
+use Rattle.name.specs.Rules.{nameByte, restOfLock, afterDot, afterSlash, afterAtSign, stands}
 use Rattle.name.proofs.Tails.{tails}
 use Rattle.name.proofs.Names.{name-row}
 
@@ -65,8 +65,8 @@ module _ (s : Text) where
   unfolding afterSlash
   read-slash = rw (read-empty s, read-begins (bytes "/") s tt, read-begins (bytes ".") s tt)
 
-  read-at : afterAt (starAsLetter s) ≡ afterAt s
-  unfolding afterAt
+  read-at : afterAtSign (starAsLetter s) ≡ afterAtSign s
+  unfolding afterAtSign
   read-at = rw (read-begins (bytes "{") s tt)
 
   read-notAt : notAt (starAsLetter s) ≡ notAt s

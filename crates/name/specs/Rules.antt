@@ -38,12 +38,12 @@ unfoldable pub afterSlash : Text → Bool
 afterSlash s = not (empty s) and not (begins (bytes "/") s) and not (begins (bytes ".") s)
 
 -- 8: what may follow an `@`
-unfoldable pub afterAt : Text → Bool
-afterAt s = not (begins (bytes "{") s)
+unfoldable pub afterAtSign : Text → Bool
+afterAtSign s = not (begins (bytes "{") s)
 
 -- a byte that a name may have, before a text that may follow it
 unfoldable pub stands : ℕ → Text → Bool
-stands x s = cond (eqb 46 x) (afterDot s) (cond (eqb 47 x) (afterSlash s) (cond (eqb 64 x) (afterAt s) (nameByte x)))
+stands x s = cond (eqb 46 x) (afterDot s) (cond (eqb 47 x) (afterSlash s) (cond (eqb 64 x) (afterAtSign s) (nameByte x)))
 
 -- how many bytes of a text stand, up to the first that does not
 abbrev pub standing : Text → ℕ

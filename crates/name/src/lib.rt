@@ -5,7 +5,7 @@ ghost use Prim.Native.Nat.{_+_, _<_, _≤_};
 ghost use lib.ListN.{length, getD, drop};
 ghost use Rattle.meaning.specs.Bytes.{_and_};
 ghost use Rattle.meaning.specs.Names.{notAt, namePasses, sidePasses};
-ghost use Rattle.name.specs.Rules.{nameByte, letter, digit, restOfLock, afterDot, afterSlash, afterAt, stands, standing, plain, fits, fitting, kindOf};
+ghost use Rattle.name.specs.Rules.{nameByte, letter, digit, restOfLock, afterDot, afterSlash, afterAtSign, stands, standing, plain, fits, fitting, kindOf};
 
 // What a text is by the rules: a name, a pattern with one star, or neither.
 pub enum NameKind {
@@ -66,7 +66,7 @@ fn after_slash(s: &[u8], at: usize) -> bool
 // 8: what stands from `at` on may follow an `@`.
 fn after_at(s: &[u8], at: usize) -> bool
     requires { ⌜ at ≤ length (now s) ⌝ }
-    ensures { λ r. ⌜ r ≡ afterAt (drop at (now (s .entry))) ⌝ }
+    ensures { λ r. ⌜ r ≡ afterAtSign (drop at (now (s .entry))) ⌝ }
 {
     if at == s.len() {
         return true;

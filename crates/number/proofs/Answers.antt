@@ -11,7 +11,7 @@ use Rattle.meaning.specs.Bytes.{Text}
 use Rattle.meaning.specs.Limits.{numberGroups}
 use Rattle.meaning.specs.Number.{Step, took, no, stepThen, groupBefore, readGroups, readNumber}
 use Rattle.number.specs.declared.Number.the-variants.{Is, Malformed}
-use Rattle.number.specs.Reading.{placed, numberAt}
+use Rattle.number.specs.Reading.{numberPlaced, numberAt}
 
 -- a number that was read: its bytes stand from `at` to `next`
 pub record Stands (s : Text) (at n next : ℕ) : Type 0 where
@@ -78,7 +78,7 @@ pub number-stands : (s : Text) (at n next : ℕ) → numberAt s at ≡ Is n next
 unfolding numberAt readNumber
 number-stands s at n next e = go (readGroups numberGroups (drop at s)) refl e
   where
-    go : (a : Step ℕ) → readGroups numberGroups (drop at s) ≡ a → placed s a ≡ Is n next → Stands s at n next
+    go : (a : Step ℕ) → readGroups numberGroups (drop at s) ≡ a → numberPlaced s a ≡ Is n next → Stands s at n next
     go (no j) f g = absurd (let z : _≡_ {A = ℕ} 0 1 = cc in omega arith)
     go (took m rest) f g =
         let p : m ≡ n = cc in
@@ -96,6 +96,6 @@ pub number-none : (s : Text) (at : ℕ) → numberAt s at ≡ Malformed → read
 unfolding numberAt readNumber
 number-none s at e = go (readGroups numberGroups (drop at s)) refl e
   where
-    go : (a : Step ℕ) → readGroups numberGroups (drop at s) ≡ a → placed s a ≡ Malformed → readGroups numberGroups (drop at s) ≡ no 13
+    go : (a : Step ℕ) → readGroups numberGroups (drop at s) ≡ a → numberPlaced s a ≡ Malformed → readGroups numberGroups (drop at s) ≡ no 13
     go (took m rest) f g = absurd (let z : _≡_ {A = ℕ} 0 1 = cc in omega arith)
     go (no j) f g = f ∙ ap (λ (i : ℕ). no i) (refuses numberGroups (drop at s) j f)

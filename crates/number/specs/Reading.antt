@@ -12,13 +12,13 @@ abbrev pub Octets : Text → Type 0
 Octets s = (i : ℕ) → getD s i 0 < 256
 
 -- a step's answer as a place of s: a value with the place of what is left
-abbrev pub placed : Text → Step ℕ → Number
-placed s (took n rest) = Is n (length s - length rest)
-placed s (no k) = Malformed
+abbrev pub numberPlaced : Text → Step ℕ → Number
+numberPlaced s (took n rest) = Is n (length s - length rest)
+numberPlaced s (no k) = Malformed
 
 -- what a reader finds at a place of s
 abbrev pub foundAt : Reader ℕ → Text → ℕ → Number
-foundAt r s at = placed s (r (drop at s))
+foundAt r s at = numberPlaced s (r (drop at s))
 
 -- the number at a place of s
 unfoldable pub numberAt : Text → ℕ → Number

@@ -6,6 +6,7 @@ ghost use Rattle.meaning.specs.Number.{numberBytes};
 ghost use Rattle.buffer.specs.Splice.{splice};
 ghost use Rattle.meaning.specs.Limits.{largestNumber};
 ghost use Rattle.number.specs.Reading.{foundAt, numberAt, afterOne, afterTwo};
+use limits::NUMBER_GROUPS;
 
 // A number that was read, with the place of what follows it, or that none is well formed there.
 pub enum Number {
@@ -93,7 +94,7 @@ pub fn size(n: usize) -> usize
     if n < TWO_GROUPS {
         return 2;
     }
-    3
+    NUMBER_GROUPS
 }
 
 // The lowest group of a number that has more: the remainder, with the top bit set.

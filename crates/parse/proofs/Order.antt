@@ -13,7 +13,7 @@ use Rattle.name.specs.declared.NameKind.{NameKind}
 use Rattle.parse.specs.declared.types.Side.{Side}
 use Rattle.parse.specs.declared.types.RefSpec.{RefSpec}
 use Rattle.parse.specs.Places.{modeMeant, sideMeant, isPresent, specMeant}
-use Rattle.parse.specs.Questions.{_orElse_, entryRefusal, shapeRefusal, sideRefusal, sideKind, isPattern, kindsAgree, negativeRefusal}
+use Rattle.parse.specs.Questions.{_orElse_, entryRefusal, shapeRefusal, sideRefusal, sideNameKind, isPattern, kindsAgree, negativeRefusal}
 use Rattle.parse.proofs.Eval.{eval, else-no, else-yes, stop, go-on}
 use Rattle.parse.proofs.Groups.{sides-questions}
 use Rattle.parse.proofs.Parts.{present-meant}
@@ -154,7 +154,7 @@ module _ (op : ℕ) (withColon : Bool) (t : Text) (r : RefSpec) where
         pub sides-destination : (destination ≡ 0 → ⊥) → destination ≡ sidesRefusal op withColon (specMeant t r)
         sides-destination n = rw sides-asked (go-on shape _ _ destination es zs (go-on source _ _ destination source-is zo (stop destination _ _ ed n)))
 
-        module _ (zd : destination ≡ 0) (a d : NameKind) (ea : a ≡ sideKind (sideMeant t (r .src))) (ek : d ≡ sideKind (sideMeant t (r .dst))) (b : Bool) (eb : b ≡ kindsAgree op (modeMeant (r .mode)) (isPresent (r .dst)) a d) where
+        module _ (zd : destination ≡ 0) (a d : NameKind) (ea : a ≡ sideNameKind (sideMeant t (r .src))) (ek : d ≡ sideNameKind (sideMeant t (r .dst))) (b : Bool) (eb : b ≡ kindsAgree op (modeMeant (r .mode)) (isPresent (r .dst)) a d) where
           -- sides that passed so far are patterns where they have stars
           stars-are : b ≡ starsAgree op (specMeant t r)
           unfolding starsAgree specMeant kindsAgree

@@ -20,7 +20,7 @@ use Rattle.name.proofs.Stars.{read-none}
 use Rattle.parse.specs.declared.types.Side.{Side}
 use Rattle.parse.specs.declared.types.Side.the-variants.{Part, Head}
 use Rattle.parse.specs.Places.{partAt, sideMeant}
-use Rattle.parse.specs.Questions.{textRefusal, sideRefusal, sideKind, isPattern}
+use Rattle.parse.specs.Questions.{textRefusal, sideRefusal, sideNameKind, isPattern}
 
 -- ---- questions 5 to 8
 
@@ -129,11 +129,11 @@ module _ (first : ℕ) (free : Bool) where
       go false n e = absurd (true≢false (sym e))
 
   -- nor is such a side
-  side-passes : (o : Option Text) → passes (sideKind o) ≡ true → 0 ≡ sideRefusal first free o
+  side-passes : (o : Option Text) → passes (sideNameKind o) ≡ true → 0 ≡ sideRefusal first free o
   side-passes none e = refl
   side-passes (some t) e = text-passes t e
 
-  module _ (o : Option Text) (k : NameKind) (is : k ≡ sideKind o) where
+  module _ (o : Option Text) (k : NameKind) (is : k ≡ sideNameKind o) where
     -- a name
     pub refusal-name : k ≡ Name → 0 ≡ sideRefusal first free o
     refusal-name e = side-passes o (ap passes (sym is ∙ e))
@@ -160,7 +160,7 @@ text-star n free t e = go (sidePasses t) (count star t) refl e
     go p (suc (suc k)) q e = absurd (suc-ne-zero n (rw (lt-leb (suc (suc k)) 1 (omega arith)) at e))
 
 -- and so is a side
-pub side-star : (n : ℕ) (free : Bool) (o : Option Text) → sideRefusal (suc n) free o ≡ 0 → isPattern (sideKind o) ≡ hasStar o
+pub side-star : (n : ℕ) (free : Bool) (o : Option Text) → sideRefusal (suc n) free o ≡ 0 → isPattern (sideNameKind o) ≡ hasStar o
 side-star n free none e = refl
 side-star n free (some t) e = text-star n free t e
 
@@ -168,7 +168,7 @@ side-star n free (some t) e = text-star n free t e
 
 module _ (t : Text) (side : Side) (at n : ℕ) (is : side ≡ Part at n) where
   -- a part is what its bytes are
-  pub kind-part : (k : NameKind) → k ≡ kindOf (partAt t at n) → k ≡ sideKind (sideMeant t side)
+  pub kind-part : (k : NameKind) → k ≡ kindOf (partAt t at n) → k ≡ sideNameKind (sideMeant t side)
   kind-part k h = rw is h
 
   -- a part looks like a hash if its bytes do
@@ -178,7 +178,7 @@ module _ (t : Text) (side : Side) (at n : ℕ) (is : side ≡ Part at n) where
 
 module _ (t : Text) (side : Side) (is : side ≡ Head) where
   -- the supplied `HEAD` is a name
-  pub kind-head : Name ≡ sideKind (sideMeant t side)
+  pub kind-head : Name ≡ sideNameKind (sideMeant t side)
   unfolding kindOf sidePasses namePasses partsPass partPasses noTwoDots noControls ruleFourByte noGlobs ruleFiveByte slashesPass noLastDot noAtBrace notAt noBackslash
   kind-head = rw is
 

@@ -47,9 +47,9 @@ sideRefusal first free none = 0
 sideRefusal first free (some t) = textRefusal first free t
 
 -- what a side is by the name rules; an absent one counts as a name
-abbrev pub sideKind : Option Text → NameKind
-sideKind none = Name
-sideKind (some t) = kindOf t
+abbrev pub sideNameKind : Option Text → NameKind
+sideNameKind none = Name
+sideNameKind (some t) = kindOf t
 
 -- the kind that has a star
 abbrev pub isPattern : NameKind → Bool

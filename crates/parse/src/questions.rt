@@ -8,7 +8,7 @@ ghost use Rattle.meaning.specs.Names.{namePasses, sidePasses};
 ghost use Rattle.meaning.specs.Spec.{_else_then_, push, hashLike, notHashLike, sidesRefusal};
 ghost use Rattle.name.specs.Rules.{kindOf};
 ghost use Rattle.parse.specs.Places.{modeMeant, partAt, sideMeant, isPresent, Within, SidesWithin, specMeant};
-ghost use Rattle.parse.specs.Questions.{entryRefusal, shapeRefusal, textRefusal, sideRefusal, sideKind, isPattern, kindsAgree, negativeRefusal};
+ghost use Rattle.parse.specs.Questions.{entryRefusal, shapeRefusal, textRefusal, sideRefusal, sideNameKind, isPattern, kindsAgree, negativeRefusal};
 use super::types::Mode;
 use super::types::RefSpec;
 use super::types::Side;
@@ -135,7 +135,7 @@ fn part_kind(spec: &[u8], at: usize, n: usize) -> NameKind
 // What a side is by the name rules; an absent one counts as a name, and `HEAD` is one.
 fn side_kind(spec: &[u8], side: Side) -> NameKind
     requires { ⌜ Within (length (now spec)) side ⌝ }
-    ensures { λ r. ⌜ r ≡ sideKind (sideMeant (now (spec .entry)) side) ⌝ }
+    ensures { λ r. ⌜ r ≡ sideNameKind (sideMeant (now (spec .entry)) side) ⌝ }
 {
     match side {
         Side::Absent => NameKind::Name,
@@ -146,7 +146,7 @@ fn side_kind(spec: &[u8], side: Side) -> NameKind
 
 // Questions 5 and 6, or 7 and 8, of a side of this kind: only what is neither name nor pattern is asked them one by one.
 fn kind_refusal(first: u64, free: bool, kind: NameKind, spec: &[u8], side: Side) -> u64
-    requires { ⌜ (first < 100) × Within (length (now spec)) side × (kind ≡ sideKind (sideMeant (now spec) side)) ⌝ }
+    requires { ⌜ (first < 100) × Within (length (now spec)) side × (kind ≡ sideNameKind (sideMeant (now spec) side)) ⌝ }
     ensures { λ r. ⌜ r ≡ sideRefusal first free (sideMeant (now (spec .entry)) side) ⌝ }
 {
     match kind {

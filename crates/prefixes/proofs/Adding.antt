@@ -24,12 +24,12 @@ use Rattle.refspec.proofs.Fronts.{remote-within}
 use Rattle.write.proofs.Lists.{expand-is, yield-within}
 use Rattle.spec_list.specs.Group.{groupMeant, AllWithin}
 use Rattle.spec_list.specs.declared.record.SpecRecord.{SpecRecord}
-use Rattle.spec_list.specs.Table.{specFrom, recordAt}
+use Rattle.spec_list.specs.Table.{specFromRecord, recordAt}
 use Rattle.spec_list.proofs.Groups.{table-next, table-within, table-end}
 use Rattle.prefixes.specs.declared.entry.Entry.{Entry}
 use Rattle.prefixes.specs.Distinct.{addAll}
 use Rattle.prefixes.specs.Table.{entryText, entry, sideEntry, tableTexts, EntryWithin, Entries, Entered}
-use Rattle.prefixes.specs.Group.{groupTexts, Collected}
+use Rattle.prefixes.specs.Group.{groupTexts, tableRoom, Collected}
 use Rattle.prefixes.proofs.Distinct.{all-append}
 
 -- ---- the entry of a side
@@ -101,7 +101,7 @@ module _ (specs : Text) (at n : ℕ) (table₀ : List ℕ) (count : ℕ) (scratc
   adding-entries = m .entered .entries
 
   -- has room for one more
-  pub adding-room : k < 6 → 3 * count + 18 ≤ length table₀ → 3 * c + 3 ≤ length table
+  pub adding-room : k < 6 → 3 * (count + 6) ≤ length table₀ → 3 * c + 3 ≤ length table
   adding-room h r = let l : length (candidates (partAt specs at n)) ≡ 6 = refl in omega (arith, m .entered .most, length-take-le k (candidates (partAt specs at n)) (omega arith), m .kept)
 
   -- which is entered
@@ -192,10 +192,10 @@ collecting-starts op specs group n table scratch =
 module _ (op : ℕ) (specs : Text) (group : List SpecRecord) (n : ℕ) (table₀ : List ℕ) (scratch₀ : Text) (table : List ℕ) (scratch : Text) (c i : ℕ) (m : Collecting op specs group n table₀ scratch₀ table scratch c i) where
   module _ (below : i < n) (few-specs : n ≤ specCount) where
     -- the table has room for six more
-    pub collecting-room : 18 * specCount ≤ length table₀ → 3 * c + 18 ≤ length table
+    pub collecting-room : tableRoom ≤ length table₀ → 3 * (c + 6) ≤ length table
     collecting-room h = omega (arith, m .few, m .kept)
 
-    module _ (size : length group ≡ specCount) (q : SpecRecord) (is : q ≡ recordAt (take n group) i) (r : RefSpec) (tells : r ≡ specFrom q) (in-list : AllWithin (length specs) (take n group)) where
+    module _ (size : length group ≡ specCount) (q : SpecRecord) (is : q ≡ recordAt (take n group) i) (r : RefSpec) (tells : r ≡ specFromRecord q) (in-list : AllWithin (length specs) (take n group)) where
       -- the next record stands within the list
       pub collecting-within : SidesWithin (length specs) r
       collecting-within = rw tells (table-within group n i q is size few-specs below (length specs) in-list)

@@ -12,7 +12,7 @@ use mir.Syntax.{w64}
 use lib.ListN.{length, set, getD, take, drop, length-append, length-set}
 use lib.Seq.{take-append-seam, getD-set-same, getD-set-other}
 use Rattle.meaning.specs.Bytes.{Text, _or_, any, same}
-use Rattle.meaning.specs.Limits.{specListBytes, specCount}
+use Rattle.meaning.specs.Limits.{specListBytes}
 use Rattle.meaning.specs.Number.{textBytes, recordBytes}
 use Rattle.promises.proofs.Laws.{or-right}
 use Rattle.promises.proofs.Reading.{records-append}
@@ -22,6 +22,7 @@ use Rattle.buffer.proofs.Splices.{splice-none, splice-start, length-splice}
 use Rattle.frames.proofs.Candidates.{recordAdds}
 use Rattle.prefixes.specs.declared.entry.Entry.{Entry}
 use Rattle.prefixes.specs.Distinct.{addNew}
+use Rattle.prefixes.specs.Group.{textsMost}
 use Rattle.prefixes.specs.Table.{entryText, entryAt, tableTexts, EntryWithin, Entries, Entered}
 use Rattle.prefixes.proofs.Texts.{entry-short}
 
@@ -87,7 +88,7 @@ module _ (specs : Text) (table : List ℕ) (c size i : ℕ) (m : Measured specs 
     }
 
     -- whose sum a machine's number holds
-    pub measured-fits : c ≤ 6 * specCount → Fits w64 (size + r)
+    pub measured-fits : c ≤ textsMost → Fits w64 (size + r)
     measured-fits k = omega (arith, m .small, short)
 
   -- after the last all is measured

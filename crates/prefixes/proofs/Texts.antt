@@ -12,7 +12,7 @@ use Rattle.meaning.specs.Number.{numberBytes, textBytes}
 use Rattle.buffer.specs.Splice.{splice}
 use Rattle.parse.specs.Places.{partAt}
 use Rattle.parse.proofs.Parts.{part-of, part-length}
-use Rattle.frames.specs.Frames.{candidate}
+use Rattle.frames.specs.Frames.{candidate, longestFrame}
 use Rattle.frames.proofs.Candidates.{candidate-short, recordAdds, record-short}
 use Rattle.prefixes.specs.declared.entry.Entry.{Entry}
 use Rattle.prefixes.specs.Table.{entryText, EntryWithin}
@@ -47,7 +47,7 @@ module _ (specs : Text) (e : Entry) where
       framed-ends r q = rw framed q
 
     -- its text has room
-    pub framed-spell-room : (d : Text) → EntryWithin (length specs) e → length specs + 18 ≤ length d → 0 + length (candidate (e .frame) (take (e .at + e .len - e .at) (drop (e .at) specs))) ≤ length d
+    pub framed-spell-room : (d : Text) → EntryWithin (length specs) e → length specs + longestFrame ≤ length d → 0 + length (candidate (e .frame) (take (e .at + e .len - e .at) (drop (e .at) specs))) ≤ length d
     framed-spell-room d w f = rw (part-of specs (e .at) (e .len)) (omega (arith, candidate-short (partAt specs (e .at) (e .len)) (e .frame) h, part-length specs (e .at) (e .len) w))
 
     -- is written

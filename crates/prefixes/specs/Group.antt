@@ -16,11 +16,19 @@ use Rattle.prefixes.specs.Table.{tableTexts, Entries}
 unfoldable pub groupTexts : ℕ → List Spec → List Text
 groupTexts op group = addAll [] (each group (expandPrefixes op))
 
--- a table of c entries holds them; a spec yields at most six
+-- a spec yields at most six texts, a group so many
+abbrev pub textsMost : ℕ
+textsMost = 6 * specCount
+
+-- room for as many entries, three numbers for each
+abbrev pub tableRoom : ℕ
+tableRoom = 3 * textsMost
+
+-- a table of c entries holds them
 pub record Collected (op : ℕ) (specs : Text) (group : List Spec) (table : List ℕ) (c : ℕ) : Type 0 where
   pub entries : Entries (length specs) table c
   pub holds : tableTexts specs table c ≡ groupTexts op group
-  pub few : c ≤ 6 * specCount
+  pub few : c ≤ textsMost
 
 -- the prefix list of the group that a spec list holds, in some order, meets the buffer, and three numbers tell so
 pub record MeetsPrefixes (op : ℕ) (specs entry exit : Text) (refusal recordNumber size : ℕ) : Type 0 where

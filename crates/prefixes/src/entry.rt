@@ -6,6 +6,7 @@ ghost use Rattle.meaning.specs.Bytes.{same};
 ghost use Rattle.meaning.specs.Limits.{specListBytes};
 ghost use Rattle.meaning.specs.Number.{textBytes};
 ghost use Rattle.buffer.specs.Splice.{splice};
+ghost use Rattle.frames.specs.Frames.{longestFrame};
 ghost use Rattle.prefixes.specs.Table.{entryText, sideEntry, EntryWithin};
 use frames::FRAMES;
 use frames::is_candidate;
@@ -72,7 +73,7 @@ pub(crate) fn put_entry(out: &mut [u8], i: usize, specs: &[u8], e: Entry) -> usi
 
 // The text, written at the start of the buffer; how many bytes it has.
 pub(crate) fn spell(out: &mut [u8], specs: &[u8], e: Entry) -> usize
-    requires { ⌜ EntryWithin (length (now specs)) e × (length (now specs) + 18 ≤ length (now out)) ⌝ }
+    requires { ⌜ EntryWithin (length (now specs)) e × (length (now specs) + longestFrame ≤ length (now out)) ⌝ }
     ensures { λ r. ⌜ (now (out .exit) ≡ splice (now (out .entry)) 0 (entryText (now (specs .entry)) e)) × (r ≡ length (entryText (now (specs .entry)) e)) ⌝ }
 {
     if e.frame < FRAMES {

@@ -12,7 +12,8 @@ ghost use Rattle.parse.specs.Places.{partAt, SidesWithin, specMeant};
 ghost use Rattle.write.specs.Yields.{yieldMeant, YieldWithin};
 ghost use Rattle.spec_list.specs.Group.{groupMeant, AllWithin};
 ghost use Rattle.prefixes.specs.Table.{tableTexts, Entries, Entered};
-ghost use Rattle.prefixes.specs.Group.{groupTexts, Collected, MeetsPrefixes};
+ghost use Rattle.frames.specs.Frames.{longestFrame};
+ghost use Rattle.prefixes.specs.Group.{groupTexts, textsMost, tableRoom, Collected, MeetsPrefixes};
 
 mod entry;
 mod table;
@@ -24,6 +25,7 @@ use buffer::written::short;
 use entry::Entry;
 use entry::side_entry;
 use frames::FRAMES;
+use frames::LONGEST_FRAME;
 use limits::SPEC_COUNT;
 use limits::SPEC_LIST_BYTES;
 use parse::types::RefSpec;
@@ -42,7 +44,7 @@ use write::prefixes::yield_of;
 const TABLE: usize = 3 * FRAMES * SPEC_COUNT;
 
 // Bytes of the longest text of an entry: a spec list in the longest frame.
-const SCRATCH: usize = SPEC_LIST_BYTES + 18;
+const SCRATCH: usize = SPEC_LIST_BYTES + LONGEST_FRAME;
 
 // Enters the candidates of the name of n bytes that begins at a place; how many entries the table has then.
 fn add_six(
@@ -53,7 +55,7 @@ fn add_six(
     at: usize,
     n: usize,
 ) -> usize
-    requires { ⌜ Entries (length (now specs)) (now table) count × (at + n ≤ length (now specs)) × (3 * count + 18 ≤ length (now table)) × (length (now specs) + 18 ≤ length (now scratch)) ⌝ }
+    requires { ⌜ Entries (length (now specs)) (now table) count × (at + n ≤ length (now specs)) × (3 * (count + 6) ≤ length (now table)) × (length (now specs) + longestFrame ≤ length (now scratch)) ⌝ }
     ensures { λ r. ⌜ Entered (now (specs .entry)) (candidates (partAt (now (specs .entry)) at n)) (now (table .entry)) count (now (table .exit)) r ⌝ }
 {
     let mut c = count;
@@ -72,7 +74,7 @@ fn add_six(
 
 // Enters the texts of a yield; how many entries the table has then.
 fn add_yield(specs: &[u8], table: &mut [usize], count: usize, scratch: &mut [u8], y: Yield) -> usize
-    requires { ⌜ Entries (length (now specs)) (now table) count × YieldWithin (length (now specs)) y × (3 * count + 18 ≤ length (now table)) × (length (now specs) + 18 ≤ length (now scratch)) ⌝ }
+    requires { ⌜ Entries (length (now specs)) (now table) count × YieldWithin (length (now specs)) y × (3 * (count + 6) ≤ length (now table)) × (length (now specs) + longestFrame ≤ length (now scratch)) ⌝ }
     ensures { λ r. ⌜ Entered (now (specs .entry)) (yieldMeant (now (specs .entry)) y) (now (table .entry)) count (now (table .exit)) r ⌝ }
 {
     match y {
@@ -91,7 +93,7 @@ fn add_spec(
     count: usize,
     scratch: &mut [u8],
 ) -> usize
-    requires { ⌜ Entries (length (now specs)) (now table) count × SidesWithin (length (now specs)) r × (3 * count + 18 ≤ length (now table)) × (length (now specs) + 18 ≤ length (now scratch)) ⌝ }
+    requires { ⌜ Entries (length (now specs)) (now table) count × SidesWithin (length (now specs)) r × (3 * (count + 6) ≤ length (now table)) × (length (now specs) + longestFrame ≤ length (now scratch)) ⌝ }
     ensures { λ n. ⌜ Entered (now (specs .entry)) (expandPrefixes op (specMeant (now (specs .entry)) r)) (now (table .entry)) count (now (table .exit)) n ⌝ }
 {
     let y = yield_of(specs, remote(op, r));
@@ -107,7 +109,7 @@ fn collect(
     table: &mut [usize],
     scratch: &mut [u8],
 ) -> usize
-    requires { ⌜ (n ≤ specCount) × AllWithin (length (now specs)) (take n group) × (18 * specCount ≤ length (now table)) × (length (now specs) + 18 ≤ length (now scratch)) ⌝ }
+    requires { ⌜ (n ≤ specCount) × AllWithin (length (now specs)) (take n group) × (tableRoom ≤ length (now table)) × (length (now specs) + longestFrame ≤ length (now scratch)) ⌝ }
     ensures { λ r. ⌜ Collected op (now (specs .entry)) (groupMeant (now (specs .entry)) (take n group)) (now (table .exit)) r ⌝ }
 {
     let mut count = 0;
@@ -123,7 +125,7 @@ fn collect(
 
 // The texts of a table as a prefix list.
 fn list_table(specs: &[u8], table: &[usize], count: usize, out: &mut [u8]) -> Written
-    requires { ⌜ Entries (length (now specs)) (now table) count × (length (now specs) ≤ specListBytes) × (count ≤ 6 * specCount) ⌝ }
+    requires { ⌜ Entries (length (now specs)) (now table) count × (length (now specs) ≤ specListBytes) × (count ≤ textsMost) ⌝ }
     ensures { λ w. ⌜ MeetsOne (accepted (some (recordBytes (tableTexts (now (specs .entry)) (now (table .entry)) count)) ∷ [])) (now (out .entry)) (now (out .exit)) (w .refusal) (w .record) (w .length) ⌝ }
 {
     let size = table_size(specs, table, count);

@@ -4,9 +4,11 @@ ghost use mathlib.Core.List.{[], _∷_};
 ghost use Prim.Native.Nat.{_+_, _*_, _≤_};
 ghost use lib.ListN.{length, set};
 ghost use Rattle.meaning.specs.Bytes.{any, same};
-ghost use Rattle.meaning.specs.Limits.{specListBytes, specCount};
+ghost use Rattle.meaning.specs.Limits.{specListBytes};
 ghost use Rattle.meaning.specs.Number.{recordBytes};
 ghost use Rattle.buffer.specs.Splice.{splice};
+ghost use Rattle.frames.specs.Frames.{longestFrame};
+ghost use Rattle.prefixes.specs.Group.{textsMost};
 ghost use Rattle.prefixes.specs.Table.{entryText, entryAt, tableTexts, EntryWithin, Entries, Entered};
 use super::entry::Entry;
 use super::entry::entry_size;
@@ -61,7 +63,7 @@ pub(crate) fn add(
     scratch: &mut [u8],
     e: Entry,
 ) -> usize
-    requires { ⌜ Entries (length (now specs)) (now table) count × EntryWithin (length (now specs)) e × (3 * count + 3 ≤ length (now table)) × (length (now specs) + 18 ≤ length (now scratch)) ⌝ }
+    requires { ⌜ Entries (length (now specs)) (now table) count × EntryWithin (length (now specs)) e × (3 * count + 3 ≤ length (now table)) × (length (now specs) + longestFrame ≤ length (now scratch)) ⌝ }
     ensures { λ r. ⌜ Entered (now (specs .entry)) (entryText (now (specs .entry)) e ∷ []) (now (table .entry)) count (now (table .exit)) r ⌝ }
 {
     let end = spell(scratch, specs, e);
@@ -74,7 +76,7 @@ pub(crate) fn add(
 
 // How many bytes the texts of a table take as a prefix list.
 pub(crate) fn table_size(specs: &[u8], table: &[usize], count: usize) -> usize
-    requires { ⌜ Entries (length (now specs)) (now table) count × (length (now specs) ≤ specListBytes) × (count ≤ 6 * specCount) ⌝ }
+    requires { ⌜ Entries (length (now specs)) (now table) count × (length (now specs) ≤ specListBytes) × (count ≤ textsMost) ⌝ }
     ensures { λ r. ⌜ r ≡ length (recordBytes (tableTexts (now (specs .entry)) (now (table .entry)) count)) ⌝ }
 {
     let mut size = 0;

@@ -10,7 +10,7 @@ use Rattle.meaning.specs.Deliveries.{decimal, shown, shownOption, shownItem, sh
 use Rattle.buffer.specs.Splice.{splice}
 use Rattle.buffer.proofs.Pairs.{pair-second, pair-put, pair-end}
 use Rattle.buffer.proofs.Threes.{three-first, three-second, three-third, three-put, three-end}
-use Rattle.print.specs.Lines.{ended, withTab, withFeed, lineStart, refusalBytes, optional, rowOf}
+use Rattle.print.specs.Lines.{ended, withTab, withFeed, lineStart, refusalMost, optional, rowOf}
 use Rattle.print.proofs.Decimals.{decimal-few}
 use Rattle.print.proofs.Fields.{ended-length}
 
@@ -54,7 +54,7 @@ module _ (item spec kind : ℕ) (source : Text) (there : Bool) (destination : Te
         line-ends r e = rw line-pieces (three-end d at (lineStart item spec kind) (withTab (shown source)) (withFeed (shownOption (optional there destination))) all o i eo ei p j ep ej r e)
 
 -- the line of a refusal: the word, and then the number
-module _ (d : Text) (n : ℕ) (h : refusalBytes ≤ length d) where
+module _ (d : Text) (n : ℕ) (h : refusalMost ≤ length d) where
   both : 0 + length (bytes "refused " ++ ended 10 (decimal n)) ≤ length d
   both = omega (arith, decimal-few n, length-append (bytes "refused ") (ended 10 (decimal n)), ended-length 10 (decimal n))
 

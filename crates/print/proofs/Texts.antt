@@ -16,7 +16,7 @@ use Rattle.text.proofs.Rests.{rest-cons, rest-end}
 use Rattle.buffer.proofs.Pairs.{pair-second, pair-put, pair-end}
 use Rattle.buffer.proofs.Threes.{three-put}
 use Rattle.buffer.proofs.Writing.{Writing, writing-starts, writing-room, writing-more, written-place, written-whole}
-use Rattle.print.specs.Lines.{plain, coded}
+use Rattle.print.specs.Lines.{printable, coded}
 
 -- a capital digit
 pub digit-low : (n : ℕ) → n < 10 → 48 + n ≡ capitalDigit n
@@ -26,7 +26,7 @@ pub digit-high : (n : ℕ) → 10 ≤ n → 55 + n ≡ capitalDigit n
 digit-high n h = rw (le-ltb n 10 h)
 
 -- one byte, by what was answered of it
-module _ (b : ℕ) (r : Bool) (e : r ≡ plain b) where
+module _ (b : ℕ) (r : Bool) (e : r ≡ printable b) where
   as-it-is : r ≡ true → shownByte b ≡ b ∷ []
   unfolding shownByte
   as-it-is y = rw (sym e ∙ y)

@@ -10,8 +10,8 @@ use Rattle.meaning.specs.Rows.{Row}
 use Rattle.meaning.specs.Deliveries.{decimal, capitalDigit, shownItem, shownKind}
 
 -- a byte that is printed as it is
-abbrev pub plain : ℕ → Bool
-plain b = leb 33 b and leb b 126 and not (eqb b 37)
+abbrev pub printable : ℕ → Bool
+printable b = leb 33 b and leb b 126 and not (eqb b 37)
 
 -- `%` and the two digits of a byte
 unfoldable pub coded : ℕ → Text
@@ -34,16 +34,16 @@ unfoldable pub lineStart : ℕ → ℕ → ℕ → Text
 lineStart item spec kind = withTab (shownItem item) ++ (withTab (decimal spec) ++ withTab (shownKind kind))
 
 -- a text of the program's input takes at most so many bytes: `=`, and three for each byte
-abbrev pub shownBytes : ℕ
-shownBytes = 1 + 3 * programBytes
+abbrev pub shownMost : ℕ
+shownMost = 1 + 3 * programBytes
 
 -- the line of a row so many: two numbers, a kind, two texts, and a byte after each
-abbrev pub lineBytes : ℕ
-lineBytes = 2 * decimalDigits + 6 + 2 * shownBytes + 5
+abbrev pub lineMost : ℕ
+lineMost = 2 * decimalDigits + 6 + 2 * shownMost + 5
 
 -- and the line of a refusal so many: the word, a number and a line feed
-abbrev pub refusalBytes : ℕ
-refusalBytes = 8 + decimalDigits + 1
+abbrev pub refusalMost : ℕ
+refusalMost = 8 + decimalDigits + 1
 
 -- a text that is there, or is absent
 abbrev pub optional : Bool → Text → Option Text

@@ -7,7 +7,7 @@ ghost use Rattle.meaning.specs.Limits.{programBytes, decimalDigits};
 ghost use Rattle.meaning.specs.Spec.{refused};
 ghost use Rattle.meaning.specs.Deliveries.{decimal, shown, shownOption, shownItem, shownKind, rowLine, header, output};
 ghost use Rattle.buffer.specs.Splice.{splice};
-ghost use Rattle.print.specs.Lines.{ended, withTab, withFeed, lineStart, shownBytes, lineBytes, refusalBytes, optional, rowOf};
+ghost use Rattle.print.specs.Lines.{ended, withTab, withFeed, lineStart, shownMost, lineMost, refusalMost, optional, rowOf};
 use super::decimal::decimal_size;
 use super::decimal::put_decimal;
 use super::shown::put_shown;
@@ -103,7 +103,7 @@ fn put_text(out: &mut [u8], at: usize, t: &[u8], end: u8) -> usize
 // How many bytes the destination has; `-` where there is none.
 fn destination_size(there: bool, destination: &[u8]) -> usize
     requires { ⌜ length (now destination) ≤ programBytes ⌝ }
-    ensures { λ r. ⌜ (r ≡ length (shownOption (optional there (now (destination .entry))))) × (r ≤ shownBytes) ⌝ }
+    ensures { λ r. ⌜ (r ≡ length (shownOption (optional there (now (destination .entry))))) × (r ≤ shownMost) ⌝ }
 {
     if there {
         return shown_size(destination);
@@ -132,7 +132,7 @@ pub fn line_size(
     destination: &[u8],
 ) -> usize
     requires { ⌜ (length (now source) ≤ programBytes) × (length (now destination) ≤ programBytes) ⌝ }
-    ensures { λ r. ⌜ (r ≡ length (rowLine (rowOf item spec kind (now (source .entry)) there (now (destination .entry))))) × (r ≤ lineBytes) ⌝ }
+    ensures { λ r. ⌜ (r ≡ length (rowLine (rowOf item spec kind (now (source .entry)) there (now (destination .entry))))) × (r ≤ lineMost) ⌝ }
 {
     let numbers = item_size(item) + decimal_size(spec) + kind_size(kind);
     let texts = shown_size(source) + destination_size(there, destination);
@@ -160,7 +160,7 @@ pub fn put_line(
 
 // Writes the line of a refusal at the start of the buffer, and answers its length.
 pub fn put_refusal(out: &mut [u8], n: u64) -> usize
-    requires { ⌜ refusalBytes ≤ length (now out) ⌝ }
+    requires { ⌜ refusalMost ≤ length (now out) ⌝ }
     ensures { λ r. ⌜ (now (out .exit) ≡ splice (now (out .entry)) 0 (output (refused n none))) × (r ≡ length (output (refused n none))) ⌝ }
 {
     let i = put(out, 0, b"refused ");

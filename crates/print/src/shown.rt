@@ -5,12 +5,12 @@ ghost use lib.ListN.{length};
 ghost use Rattle.meaning.specs.Limits.{programBytes};
 ghost use Rattle.meaning.specs.Deliveries.{capitalDigit, shownByte, shown};
 ghost use Rattle.buffer.specs.Splice.{splice};
-ghost use Rattle.print.specs.Lines.{plain, coded, shownBytes};
+ghost use Rattle.print.specs.Lines.{printable, coded, shownMost};
 use buffer::put_byte;
 
 // A byte that is printed as it is: 33 to 126, but not `%`.
 fn is_plain(b: u8) -> bool
-    ensures { λ r. ⌜ r ≡ plain b ⌝ }
+    ensures { λ r. ⌜ r ≡ printable b ⌝ }
 {
     match b {
         b'%' => false,
@@ -64,7 +64,7 @@ fn put_shown_byte(out: &mut [u8], at: usize, b: u8) -> usize
 // How many bytes a text takes.
 pub(crate) fn shown_size(t: &[u8]) -> usize
     requires { ⌜ length (now t) ≤ programBytes ⌝ }
-    ensures { λ r. ⌜ (r ≡ length (shown (now (t .entry)))) × (r ≤ shownBytes) ⌝ }
+    ensures { λ r. ⌜ (r ≡ length (shown (now (t .entry)))) × (r ≤ shownMost) ⌝ }
 {
     let mut size = 1;
     let mut i = 0;

@@ -9,7 +9,7 @@ use native.Mathlib.Omega.{arith}
 use lib.Dec.{eqb, lit≤}
 use lib.ListN.{length, length-append, length-drop}
 use Rattle.meaning.specs.Bytes.{Text, bytes, star, _and_, _or_, any, same, begins, each, numbered, lower, objectId, given, In, here, there}
-use Rattle.meaning.specs.Limits.{specBytes, nameBytes, specCount}
+use Rattle.meaning.specs.Limits.{specBytes, nameBytes, mappedBytes, specCount}
 use Rattle.meaning.specs.Spec.{accepted, Mode, Spec, isNegative, modeOf, unsigned, sidesOf, left, right, supplied, named, sourceOf, specFrom, specOf, starred, readSpec}
 use Rattle.meaning.specs.Prefix.{beforeStar, candidates}
 use Rattle.meaning.specs.Lists.{readSpecs, readItems}
@@ -23,7 +23,7 @@ use Rattle.promises.proofs.Captures.{capture-is}
 use Rattle.promises.proofs.Splitting.{sides-length, unsigned-length}
 use Rattle.promises.proofs.Members.{group-count, group-texts, names-count, names-short}
 use Rattle.promises.proofs.Accepted.{read-passed}
-use Rattle.promises.proofs.Listings.{endsIn, from-group, forward-made, reverse-made, object-source}
+use Rattle.promises.proofs.Listings.{rowEnds, from-group, forward-made, reverse-made, object-source}
 
 -- the sides of an accepted spec are short
 
@@ -128,7 +128,7 @@ hit-length (starNeedle a b) name = go (capture a b name) refl
     go (some c) e = let q = capture-is a b name c e in omega (arith, ap length q, length-append a (c ++ b), length-append c b)
 
 -- a destination that a match is mapped to
-maps-length : (name : Text) (h : Hit) → HitLength name h → (f : Option Form) → ((g : Form) → f ≡ some g → formLength g ≤ specBytes) → (d : Text) → mapsTo h f ≡ mapped (some d) → length name ≤ nameBytes → length d ≤ specBytes + nameBytes
+maps-length : (name : Text) (h : Hit) → HitLength name h → (f : Option Form) → ((g : Form) → f ≡ some g → formLength g ≤ specBytes) → (d : Text) → mapsTo h f ≡ mapped (some d) → length name ≤ nameBytes → length d ≤ mappedBytes
 unfolding formLength
 maps-length name miss l f s d e k = absurd (let z : _≡_ {A = ℕ} 0 1 = cc in omega arith)
 maps-length name whole l none s d e k = absurd (let z : _≡_ {A = ℕ} 0 1 = cc in omega arith)
@@ -144,25 +144,25 @@ forms-short none h g e = absurd (let z : _≡_ {A = ℕ} 0 1 = cc in omega arith
 forms-short (some t) h g e = let q : formOf t ≡ g = cc in rw (← q) (omega (arith, form-length t, h t refl))
 
 -- a name mapped forward
-forward-length : (s : Spec) (name d : Text) → Short (s .destination) → forward s name ≡ mapped (some d) → length name ≤ nameBytes → length d ≤ specBytes + nameBytes
+forward-length : (s : Spec) (name d : Text) → Short (s .destination) → forward s name ≡ mapped (some d) → length name ≤ nameBytes → length d ≤ mappedBytes
 unfolding forward
 forward-length s name d h e k = go (s .source) e
   where
-    go : (o : Option Text) → forwardBy (isNegative (s .mode)) o (s .destination) name ≡ mapped (some d) → length d ≤ specBytes + nameBytes
+    go : (o : Option Text) → forwardBy (isNegative (s .mode)) o (s .destination) name ≡ mapped (some d) → length d ≤ mappedBytes
     go none p = absurd (let z : _≡_ {A = ℕ} 0 1 = cc in omega arith)
     go (some src) p = maps-length name (hit (needleOf (isNegative (s .mode)) src) name) (hit-length (needleOf (isNegative (s .mode)) src) name) (Option·map formOf (s .destination)) (forms-short (s .destination) h) d p k
 
 -- a name mapped back, by forms
-back-length : (f g : Form) (name n : Text) → formLength f ≤ specBytes → reverseBy f g name ≡ some n → length name ≤ nameBytes → length n ≤ specBytes + nameBytes
+back-length : (f g : Form) (name n : Text) → formLength f ≤ specBytes → reverseBy f g name ≡ some n → length name ≤ nameBytes → length n ≤ mappedBytes
 unfolding formLength
 back-length (literal s) (literal t) name n h e k = go (same t name) e
   where
-    go : (b : Bool) → cond b (some s) none ≡ some n → length n ≤ specBytes + nameBytes
+    go : (b : Bool) → cond b (some s) none ≡ some n → length n ≤ mappedBytes
     go true p = let q : s ≡ n = cc in rw (← q) (omega arith)
     go false p = absurd (let z : _≡_ {A = ℕ} 0 1 = cc in omega arith)
 back-length (pattern a b) (pattern a′ b′) name n h e k = go (capture a′ b′ name) refl e
   where
-    go : (o : Option Text) → capture a′ b′ name ≡ o → Option·map (λ c. a ++ (c ++ b)) o ≡ some n → length n ≤ specBytes + nameBytes
+    go : (o : Option Text) → capture a′ b′ name ≡ o → Option·map (λ c. a ++ (c ++ b)) o ≡ some n → length n ≤ mappedBytes
     go none c p = absurd (let z : _≡_ {A = ℕ} 0 1 = cc in omega arith)
     go (some c) i p =
         let q : a ++ (c ++ b) ≡ n = cc in
@@ -172,11 +172,11 @@ back-length (literal s) (pattern a b) name n h e k = absurd (let z : _≡_ {A = 
 back-length (pattern a b) (literal t) name n h e k = absurd (let z : _≡_ {A = ℕ} 0 1 = cc in omega arith)
 
 -- a name mapped back
-pub reverse-length : (s : Spec) (name n : Text) → Short (s .source) → reverse s name ≡ some n → length name ≤ nameBytes → length n ≤ specBytes + nameBytes
+pub reverse-length : (s : Spec) (name n : Text) → Short (s .source) → reverse s name ≡ some n → length name ≤ nameBytes → length n ≤ mappedBytes
 unfolding reverse
 reverse-length s name n h e k = go (s .source) (s .destination) h e
   where
-    go : (src dst : Option Text) → Short src → reverseSides src dst name ≡ some n → length n ≤ specBytes + nameBytes
+    go : (src dst : Option Text) → Short src → reverseSides src dst name ≡ some n → length n ≤ mappedBytes
     go none dst i p = absurd (let z : _≡_ {A = ℕ} 0 1 = cc in omega arith)
     go (some src) none i p = absurd (let z : _≡_ {A = ℕ} 0 1 = cc in omega arith)
     go (some src) (some dst) i p = back-length (formOf src) (formOf dst) name n (omega (arith, form-length src, i src refl)) p k
@@ -191,7 +191,7 @@ module _ (op : ℕ) (specs items : Text) (group : List Spec) (names : List Text)
   forward-fits : (r : Row) → In r (groupRows forwardEnds group names) → RowFits r
   forward-fits r m =
       let x = from-group forwardEnds group names r m in
-      let w = forward-made (x .spec) (x .name) (endsIn r) (x .made) in
+      let w = forward-made (x .spec) (x .name) (rowEnds r) (x .made) in
       let a = group-count op specs group e in
       let b = names-count items names f in
       let c = names-short items names f (x .name) (x .name-in) in
@@ -207,7 +207,7 @@ module _ (op : ℕ) (specs items : Text) (group : List Spec) (names : List Text)
   reverse-fits : (r : Row) → In r (groupRows reverseEnds group names) → RowFits r
   reverse-fits r m =
       let x = from-group reverseEnds group names r m in
-      let w = reverse-made (x .spec) (x .name) (endsIn r) (x .made) in
+      let w = reverse-made (x .spec) (x .name) (rowEnds r) (x .made) in
       let a = group-count op specs group e in
       let b = names-count items names f in
       let c = names-short items names f (x .name) (x .name-in) in

@@ -16,8 +16,8 @@ use Rattle.promises.proofs.Laws.{in-each, each-in, numbered-in, in-numb
 use Rattle.promises.proofs.Captures.{form-plain, form-starred}
 
 -- the ends that a row has
-abbrev pub endsIn : Row → Ends
-endsIn r = record { source = r .source; destination = r .destination }
+abbrev pub rowEnds : Row → Ends
+rowEnds r = record { source = r .source; destination = r .destination }
 
 -- a row of a group: its spec and its item, and the ends that the spec makes of the item's name
 pub record FromGroup (make : Spec → Text → Option Ends) (group : List Spec) (names : List Text) (r : Row) : Type 0 where
@@ -26,7 +26,7 @@ pub record FromGroup (make : Spec → Text → Option Ends) (group : List Spec) 
   pub positive : isNegative (spec .mode) ≡ false
   pub name : Text
   pub name-in : In name names
-  pub made : make spec name ≡ some (endsIn r)
+  pub made : make spec name ≡ some (rowEnds r)
   pub item-fits : r .item < suc (length names)
   pub spec-fits : r .spec < length group
   pub is-name : r .kind ≡ 0
@@ -37,7 +37,7 @@ positive-in true l m = elim m [ ]
 positive-in false l m = (refl, m)
 
 -- one row: its ends were made, its numbers are the item's and the spec's
-one-row : (i j : ℕ) (e : Option Ends) {r : Row} → In r (nameRow i j e) → (e ≡ some (endsIn r)) × (r .item ≡ suc j) × (r .spec ≡ i) × (r .kind ≡ 0)
+one-row : (i j : ℕ) (e : Option Ends) {r : Row} → In r (nameRow i j e) → (e ≡ some (rowEnds r)) × (r .item ≡ suc j) × (r .spec ≡ i) × (r .kind ≡ 0)
 one-row i j none h = elim h [ ]
 one-row i j (some e) here = (refl, refl, refl, refl)
 one-row i j (some e) (there h) = elim h [ ]
@@ -66,7 +66,7 @@ from-group make group names r h =
     }
 
 -- ends that a spec makes of an item's name stand in a row
-pub to-group : (make : Spec → Text → Option Ends) (group : List Spec) (names : List Text) (s : Spec) (n : Text) (e : Ends) → In s group → isNegative (s .mode) ≡ false → In n names → make s n ≡ some e → (r : Row) × In r (groupRows make group names) × (r .kind ≡ 0) × (endsIn r ≡ e)
+pub to-group : (make : Spec → Text → Option Ends) (group : List Spec) (names : List Text) (s : Spec) (n : Text) (e : Ends) → In s group → isNegative (s .mode) ≡ false → In n names → make s n ≡ some e → (r : Row) × In r (groupRows make group names) × (r .kind ≡ 0) × (rowEnds r ≡ e)
 unfolding nameRows
 to-group make group names s n e h neg k p =
     let i = in-numbered 0 h in

@@ -17,7 +17,7 @@ use Rattle.promises.specs.Terms.{TwoSources, bothWays, reversible, Stand
 use Rattle.promises.specs.Demands.{KeptMapBack}
 use Rattle.promises.proofs.Laws.{and-left, and-right, or-cases, in-right, in-append, in-keep, keep-in, every-in, each-in, numbered-in, same-is, same-eq}
 use Rattle.promises.proofs.Captures.{capture-is, capture-fill, form-plain, form-starred}
-use Rattle.promises.proofs.Listings.{endsIn, FromGroup, from-group, to-group, forward-made, reverse-made, Free, excluded-free, free-stays, no-object}
+use Rattle.promises.proofs.Listings.{rowEnds, FromGroup, from-group, to-group, forward-made, reverse-made, Free, excluded-free, free-stays, no-object}
 use Rattle.promises.proofs.Conflicts.{passes-exactly}
 
 -- one spec, there and back
@@ -243,7 +243,7 @@ module _ (group : List Spec) (names others : List Text) (back : every reversible
   unfolding forwardRows
   to-source h k e =
       let f = forward-name h in
-      let w = forward-made (f .spec) (f .name) (endsIn r) (f .made) in
+      let w = forward-made (f .spec) (f .name) (rowEnds r) (f .made) in
       let free = excluded-free group r (f .is-name) (keep-in (notExcluded group) (each (numbered group) objectRows ++ groupRows forwardEnds group names) h .1) in
       let m : forward (f .spec) (r .source) ≡ mapped (some d) = ap (forward (f .spec)) (sym (w .0)) ∙ w .1 ∙ ap {B = Mapped} mapped on in
       rw e (to-reverse group others (f .spec) (r .source) d (f .spec-in) (f .positive) k (forth (f .spec) (f .positive) (every-in reversible back (f .spec-in)) (r .source) d m) free)
@@ -254,7 +254,7 @@ module _ (group : List Spec) (names others : List Text) (back : every reversible
   from-source h none-two k st =
       let q = st .row in
       let f = from-group reverseEnds group others q (keep-in (notExcluded group) (groupRows reverseEnds group others) (st .row-in) .0) in
-      let v = reverse-made (f .spec) (f .name) (endsIn q) (f .made) in
+      let v = reverse-made (f .spec) (f .name) (rowEnds q) (f .made) in
       let free : Free group n = rw (st .from-n) at (excluded-free group q (f .is-name) (keep-in (notExcluded group) (groupRows reverseEnds group others) (st .row-in) .1)) in
       let o : f .name ≡ d = cc (v .1, st .onto-d) in
       let m : reverse (f .spec) d ≡ some n = ap (reverse (f .spec)) (sym o) ∙ v .0 ∙ ap {B = Option Text} some (st .from-n) in

@@ -296,23 +296,27 @@ in-replicate a (suc k) m = first (in-replicate a k) m
     first f here = refl
     first f (there n) = f n
 
+-- so many of the longest specs are more than a spec list may have
+abbrev tooMany : ℕ
+tooMany = specListBytes / specBytes + 1
+
 grown-reads : readSpec 0 (grows letters) ≡ accepted (grown letters)
 unfolding everything
 grown-reads = refl
 
-sixteen-read : readSpecs 0 (recordBytes (map (λ (s : Spec). grows letters) (replicate 16 (grown letters)))) ≡ accepted (map (λ (s : Spec). s) (replicate 16 (grown letters)))
+many-grown-read : readSpecs 0 (recordBytes (map (λ (s : Spec). grows letters) (replicate tooMany (grown letters)))) ≡ accepted (map (λ (s : Spec). s) (replicate tooMany (grown letters)))
 unfolding everything
-sixteen-read = specs-written 0 (lit≤ tt) (λ (s : Spec). grows letters) (λ (s : Spec). s) (replicate 16 (grown letters)) (lit≤ tt) (λ s m. lit≤ tt) (λ s m. rw (in-replicate (grown letters) 16 m) grown-reads) (lit≤ tt)
+many-grown-read = specs-written 0 (lit≤ tt) (λ (s : Spec). grows letters) (λ (s : Spec). s) (replicate tooMany (grown letters)) (lit≤ tt) (λ s m. lit≤ tt) (λ s m. rw (in-replicate (grown letters) tooMany m) grown-reads) (lit≤ tt)
 
-sixteen-long : specListBytes < length (canonicalList (replicate 16 (grown letters)))
+many-grown-long : specListBytes < length (canonicalList (replicate tooMany (grown letters)))
 unfolding everything
-sixteen-long = lit< tt
+many-grown-long = lit< tt
 
 canonical-any-list : CanonicalOfAnyList → ⊥
 unfolding everything textFits noPlus
 canonical-any-list f =
-    let q = f (recordBytes (map (λ (s : Spec). grows letters) (replicate 16 (grown letters)))) (map (λ (s : Spec). s) (replicate 16 (grown letters))) sixteen-read refl refl in
-    refused-accepted (sym (specs-long 0 (canonicalList (replicate 16 (grown letters))) (lit≤ tt) sixteen-long) ∙ q .1)
+    let q = f (recordBytes (map (λ (s : Spec). grows letters) (replicate tooMany (grown letters)))) (map (λ (s : Spec). s) (replicate tooMany (grown letters))) many-grown-read refl refl in
+    refused-accepted (sym (specs-long 0 (canonicalList (replicate tooMany (grown letters))) (lit≤ tt) many-grown-long) ∙ q .1)
 
 -- how many bytes an answer has for the first buffer
 firstLength : Answer Outputs → ℕ

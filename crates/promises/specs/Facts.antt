@@ -8,7 +8,7 @@ use mathlib.Core.Option.{some}
 use lib.Dec.{ltb}
 use lib.ListN.{length}
 use Rattle.meaning.specs.Bytes.{Text, every, colon, hasByte, inOrder, In, Ascending}
-use Rattle.meaning.specs.Limits.{specBytes, nameBytes, rowListBytes, specCount, itemCount, decimalDigits}
+use Rattle.meaning.specs.Limits.{mappedBytes, rowListBytes, specCount, itemCount, decimalDigits}
 use Rattle.meaning.specs.Spec.{Answer, accepted, Spec, one, two, sidesOf}
 use Rattle.meaning.specs.Prefix.{GroupPrefixes}
 use Rattle.meaning.specs.Number.{recordBytes, Reader}
@@ -78,8 +78,8 @@ pub record RowFits (r : Row) : Type 0 where
   pub item-fits : r .item ≤ itemCount
   pub spec-fits : r .spec < specCount
   pub kind-fits : r .kind ≤ 1
-  pub source-fits : length (r .source) ≤ specBytes + nameBytes
-  pub destination-fits : (d : Text) → r .destination ≡ some d → length d ≤ specBytes + nameBytes
+  pub source-fits : length (r .source) ≤ mappedBytes
+  pub destination-fits : (d : Text) → r .destination ≡ some d → length d ≤ mappedBytes
 
 -- every row of either listing of lists that are read fits, whatever the operation and however long the listing
 abbrev pub RowNumbersFit : Type 0

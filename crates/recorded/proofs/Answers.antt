@@ -28,8 +28,8 @@ use Rattle.refspec.specs.declared.spec.Instructed.{Instructed}
 use Rattle.refspec.specs.declared.spec.Instructed.the-variants as instructed-as
 use Rattle.refspec.specs.declared.spec.Prefixed.{Prefixed}
 use Rattle.refspec.specs.declared.spec.Prefixed.the-variants as prefixed-as
-use Rattle.refspec.specs.Instructions.{instructionMeant, instructionPlaces, instructedBy, instructed}
-use Rattle.refspec.specs.Prefixes.{remotePlace, prefixAt, prefixPlace, prefixedBy, prefixed}
+use Rattle.refspec.specs.Instructions.{instructionMeant, instructionPlaces, instructedBy, instructedPlaces}
+use Rattle.refspec.specs.Prefixes.{remotePlace, prefixAt, prefixPlace, prefixedBy, prefixedPlaces}
 use Rattle.refspec.proofs.Instructions.{instruction-meant}
 use Rattle.refspec.proofs.Fronts.{IsFront, prefix-front, prefix-meant, remote-meant, remote-within}
 use Rattle.recorded.specs.declared.field.Next.{Next}
@@ -86,9 +86,9 @@ record PrefixRead (op : ℕ) (t : Text) (side : Side) : Type 0 where
   within : Within (length t) side
   is : (s : Spec) → readSpec op t ≡ accepted s → sideMeant t side ≡ prefix op s
 
-module _ (op : ℕ) (t : Text) (p : Prefixed) (ep : p ≡ prefixed op t) (side : Side) (e : p ≡ prefixed-as.Prefix side) where
+module _ (op : ℕ) (t : Text) (p : Prefixed) (ep : p ≡ prefixedPlaces op t) (side : Side) (e : p ≡ prefixed-as.Prefix side) where
   prefix-read : PrefixRead op t side
-  unfolding prefixed prefix
+  unfolding prefixedPlaces prefix
   prefix-read = go (parsed op t) refl (sym e ∙ ep)
     where
       go : (a : Parsed) → a ≡ parsed op t → prefixed-as.Prefix side ≡ prefixedBy op t a → PrefixRead op t side
@@ -161,10 +161,10 @@ module _ (told : Text) (at : ℕ) (i : Instruction) (r : Next) (n : ℕ) (f : (t
       (found-at told at (instructionBytes (instructionMeant t i)) r n (f t) e) (h s (w .accepts .reads) y)
       ∙ rw (w .accepts .reads, w .meant)
 
-module _ (op : ℕ) (t : Text) (q : Instructed) (eq : q ≡ instructed op t) where
+module _ (op : ℕ) (t : Text) (q : Instructed) (eq : q ≡ instructedPlaces op t) where
   -- an instruction that is answered, and the spec that was read
   pub answer-instructs : (i : Instruction) → q ≡ instructed-as.To i → Instructs op t i
-  unfolding instructed
+  unfolding instructedPlaces
   answer-instructs i e = go (parsed op t) refl (sym e ∙ eq)
     where
       go : (a : Parsed) → a ≡ parsed op t → instructed-as.To i ≡ instructedBy op a → Instructs op t i
@@ -174,7 +174,7 @@ module _ (op : ℕ) (t : Text) (q : Instructed) (eq : q ≡ instructed op t) whe
           record { accepts = record { spec = specMeant t p; reads = read-accepted op t (reading.Spec p) ea p refl }; meant = ap (instructionMeant t) x ∙ instruction-meant op t p }
 
   pub answer-refused : (told : Text) (at : ℕ) (r : Bool) (n : ℕ) → q ≡ instructed-as.Refused n → (r ≡ true → drop at told ≡ 0 ∷ []) → r ≡ true → drop at told ≡ answerBytes op (readSpec op t)
-  unfolding instructed
+  unfolding instructedPlaces
   answer-refused told at r n e f y = rw (go (parsed op t) refl (sym e ∙ eq)) (f y)
     where
       go : (a : Parsed) → a ≡ parsed op t → instructed-as.Refused n ≡ instructedBy op a → readSpec op t ≡ refused n none

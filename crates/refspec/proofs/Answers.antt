@@ -19,8 +19,8 @@ use Rattle.refspec.specs.declared.spec.Prefixed.{Prefixed}
 use Rattle.refspec.specs.declared.spec.Prefixed.the-variants as prefixed-as
 use Rattle.parse.specs.Places.{parsed}
 use Rattle.parse.proofs.Answers.{read-accepted, read-refused, read-within}
-use Rattle.refspec.specs.Instructions.{instructionPlaces, instructedBy, instructed, instructedMeant}
-use Rattle.refspec.specs.Prefixes.{remotePlace, prefixPlace, prefixedBy, prefixed, prefixedMeant}
+use Rattle.refspec.specs.Instructions.{instructionPlaces, instructedBy, instructedPlaces, instructedMeant}
+use Rattle.refspec.specs.Prefixes.{remotePlace, prefixPlace, prefixedBy, prefixedPlaces, prefixedMeant}
 use Rattle.refspec.proofs.Instructions.{instruction-meant}
 use Rattle.refspec.proofs.Fronts.{remote-meant, remote-within, prefix-meant}
 
@@ -28,28 +28,28 @@ use Rattle.refspec.proofs.Fronts.{remote-meant, remote-within, prefix-m
 module _ (op : ℕ) (t : Text) (p : Parsed) (ep : p ≡ parsed op t) where
   module _ (r : RefSpec) (e : p ≡ Spec r) where
     -- an accepted spec instructs
-    pub instructed-to : (i : Instruction) → i ≡ instructionPlaces op r → instructed-as.To i ≡ instructed op t
-    unfolding instructed
+    pub instructed-to : (i : Instruction) → i ≡ instructionPlaces op r → instructed-as.To i ≡ instructedPlaces op t
+    unfolding instructedPlaces
     instructed-to i h = rw (sym ep ∙ e, h)
 
     -- and has a prefix, perhaps an absent one
-    pub prefixed-to : (side : Side) → side ≡ prefixPlace t (remotePlace op r) → prefixed-as.Prefix side ≡ prefixed op t
-    unfolding prefixed
+    pub prefixed-to : (side : Side) → side ≡ prefixPlace t (remotePlace op r) → prefixed-as.Prefix side ≡ prefixedPlaces op t
+    unfolding prefixedPlaces
     prefixed-to side h = rw (sym ep ∙ e, h)
 
   -- a refused spec instructs nothing
-  pub instructed-no : (n : ℕ) → p ≡ Refused n → instructed-as.Refused n ≡ instructed op t
-  unfolding instructed
+  pub instructed-no : (n : ℕ) → p ≡ Refused n → instructed-as.Refused n ≡ instructedPlaces op t
+  unfolding instructedPlaces
   instructed-no n e = rw (sym ep ∙ e)
 
   -- and its prefix is refused alike
-  pub prefixed-no : (n : ℕ) → p ≡ Refused n → prefixed-as.Refused n ≡ prefixed op t
-  unfolding prefixed
+  pub prefixed-no : (n : ℕ) → p ≡ Refused n → prefixed-as.Refused n ≡ prefixedPlaces op t
+  unfolding prefixedPlaces
   prefixed-no n e = rw (sym ep ∙ e)
 
 -- the instruction that is answered means the meaning's
-pub instructed-means : (op : ℕ) (t : Text) (r : Instructed) → r ≡ instructed op t → instructedMeant t r ≡ entries.instructed op t
-unfolding instructed entries.instructed
+pub instructed-means : (op : ℕ) (t : Text) (r : Instructed) → r ≡ instructedPlaces op t → instructedMeant t r ≡ entries.instructed op t
+unfolding instructedPlaces entries.instructed
 instructed-means op t r e = rw e (go (parsed op t) refl)
   where
     go : (p : Parsed) → p ≡ parsed op t → instructedMeant t (instructedBy op p) ≡ (readSpec op t andThen λ s. accepted (instruction op s))
@@ -57,8 +57,8 @@ instructed-means op t r e = rw e (go (parsed op t) refl)
     go (Refused n) h = rw (read-refused op t (Refused n) h n refl)
 
 -- so does the prefix
-pub prefixed-means : (op : ℕ) (t : Text) (r : Prefixed) → r ≡ prefixed op t → prefixedMeant t r ≡ entries.prefixed op t
-unfolding prefixed entries.prefixed prefix
+pub prefixed-means : (op : ℕ) (t : Text) (r : Prefixed) → r ≡ prefixedPlaces op t → prefixedMeant t r ≡ entries.prefixed op t
+unfolding prefixedPlaces entries.prefixed prefix
 prefixed-means op t r e = rw e (go (parsed op t) refl)
   where
     go : (p : Parsed) → p ≡ parsed op t → prefixedMeant t (prefixedBy op t p) ≡ (readSpec op t andThen λ s. accepted (prefix op s))

@@ -16,7 +16,7 @@ use Rattle.parse.proofs.Reachable.{fetch-has-source, negative-has-source}
 use Rattle.refspec.specs.declared.instruction.Instruction.{Instruction}
 use Rattle.refspec.specs.declared.instruction.Instruction.the-variants.{FetchOnly, FetchExclude, FetchAndUpdate, PushAllMatchingBranches, PushDelete, PushMatching, PushExclude}
 use Rattle.refspec.specs.declared.spec.Instructed.the-variants.{To}
-use Rattle.refspec.specs.Instructions.{fetchPlaces, pushPlaces, instructionPlaces, SidesPresent, instructedBy, instructed}
+use Rattle.refspec.specs.Instructions.{fetchPlaces, pushPlaces, instructionPlaces, SidesPresent, instructedBy, instructedPlaces}
 
 module _ (f : Bool) (src dst : Side) where
   -- a fetch with a source carries what is there
@@ -61,8 +61,8 @@ module _ (op : ℕ) (t : Text) (r : RefSpec) (e : parsed op t ≡ Spec r) where
       go false false ea eb = fetch-present (isForce (modeMeant (r .mode))) (r .src) (r .dst) (fetch-has-source op t r e (is-fetch op at-most-push eb))
 
 -- every instruction that is answered carries sides that are there
-pub instructed-present : (op : ℕ) (t : Text) (i : Instruction) → instructed op t ≡ To i → SidesPresent i
-unfolding instructed
+pub instructed-present : (op : ℕ) (t : Text) (i : Instruction) → instructedPlaces op t ≡ To i → SidesPresent i
+unfolding instructedPlaces
 instructed-present op t i = go (parsed op t) refl
   where
     go : (p : Parsed) → parsed op t ≡ p → instructedBy op p ≡ To i → SidesPresent i

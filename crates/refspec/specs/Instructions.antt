@@ -62,8 +62,8 @@ instructedBy op (reading.Spec r) = answer.To (instructionPlaces op r)
 instructedBy op (reading.Refused n) = answer.Refused n
 
 -- what a spec instructs
-unfoldable pub instructed : ℕ → Text → Instructed
-instructed op t = instructedBy op (parsed op t)
+unfoldable pub instructedPlaces : ℕ → Text → Instructed
+instructedPlaces op t = instructedBy op (parsed op t)
 
 -- what an answer means: the instruction, or the number of the question that refuses
 abbrev pub instructedMeant : Text → Instructed → Answer meaning.Instruction

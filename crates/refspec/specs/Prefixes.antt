@@ -41,8 +41,8 @@ prefixedBy op t (reading.Spec r) = answer.Prefix (prefixPlace t (remotePlace op 
 prefixedBy op t (reading.Refused n) = answer.Refused n
 
 -- the prefix of a spec
-unfoldable pub prefixed : ℕ → Text → Prefixed
-prefixed op t = prefixedBy op t (parsed op t)
+unfoldable pub prefixedPlaces : ℕ → Text → Prefixed
+prefixedPlaces op t = prefixedBy op t (parsed op t)
 
 -- what an answer means: the prefix, if there is one, or the number of the question that refuses
 abbrev pub prefixedMeant : Text → Prefixed → Answer (Option Text)

@@ -7,8 +7,8 @@ ghost use Rattle.meaning.specs.Spec.{isForce};
 ghost use Rattle.meaning.specs.Prefix.{namePrefix};
 ghost use Rattle.meaning.specs.Entries as entries;
 ghost use Rattle.parse.specs.Places.{modeMeant, isPresent, partAt, Within, SidesWithin};
-ghost use Rattle.refspec.specs.Instructions.{fetchPlaces, pushPlaces, instructionPlaces, instructed, instructedMeant};
-ghost use Rattle.refspec.specs.Prefixes.{remotePlace, lengthOr0, prefixAt, prefixPlace, prefixed, prefixedMeant};
+ghost use Rattle.refspec.specs.Instructions.{fetchPlaces, pushPlaces, instructionPlaces, instructedPlaces, instructedMeant};
+ghost use Rattle.refspec.specs.Prefixes.{remotePlace, lengthOr0, prefixAt, prefixPlace, prefixedPlaces, prefixedMeant};
 use super::instruction::Instruction;
 use parse::Parsed;
 use parse::parse;
@@ -172,7 +172,7 @@ pub fn prefix_of(spec: &[u8], side: Side) -> Side
 
 // What a spec instructs, for an operation, 0 fetch or 1 push.
 pub fn instruction(op: u64, spec: &[u8]) -> Instructed
-    ensures { λ r. ⌜ (r ≡ instructed op (now (spec .entry))) × (instructedMeant (now (spec .entry)) r ≡ entries.instructed op (now (spec .entry))) ⌝ }
+    ensures { λ r. ⌜ (r ≡ instructedPlaces op (now (spec .entry))) × (instructedMeant (now (spec .entry)) r ≡ entries.instructed op (now (spec .entry))) ⌝ }
 {
     match parse(op, spec) {
         Parsed::Spec(r) => Instructed::To(instruction_of(op, r)),
@@ -190,7 +190,7 @@ fn spec_prefix(op: u64, spec: &[u8], r: RefSpec) -> Side
 
 // The prefix of a spec, for an operation, 0 fetch or 1 push.
 pub fn prefix(op: u64, spec: &[u8]) -> Prefixed
-    ensures { λ r. ⌜ (r ≡ prefixed op (now (spec .entry))) × (prefixedMeant (now (spec .entry)) r ≡ entries.prefixed op (now (spec .entry))) ⌝ }
+    ensures { λ r. ⌜ (r ≡ prefixedPlaces op (now (spec .entry))) × (prefixedMeant (now (spec .entry)) r ≡ entries.prefixed op (now (spec .entry))) ⌝ }
 {
     match parse(op, spec) {
         Parsed::Spec(r) => Prefixed::Prefix(spec_prefix(op, spec, r)),

@@ -19,8 +19,8 @@ use Rattle.number.proofs.Bytes.{bytes-few, size-one}
 use Rattle.matcher.specs.declared.types.RowText.{RowText}
 use Rattle.matcher.specs.declared.types.RowText.the-variants.{Absent, Name, Led, Filled}
 use Rattle.matcher.specs.Matching.{rowTextMeant}
-use Rattle.row_text.specs.Leads.{madeMost}
-use Rattle.row.specs.Rows.{isAbsent, rowMeant, rowNumbers, presentBytes, textMost, rowMost}
+use Rattle.row_text.specs.Leads.{rowTextMost}
+use Rattle.row.specs.Rows.{isAbsent, rowOfTexts, rowNumbers, presentBytes, textMost, rowMost}
 
 -- a destination that is absent
 pub destination-none : (specs name : Text) (m : RowText) → isAbsent m ≡ true → destinationBytes (rowTextMeant specs name m) ≡ numberBytes 0
@@ -41,13 +41,13 @@ destination-some specs name (Filled f) e = refl
 number-few : (m k : ℕ) → m ≡ length (numberBytes k) → m ≤ numberGroups
 number-few m k e = omega (arith, bytes-few k)
 
-pub text-fits : (m n k : ℕ) → m ≡ length (numberBytes k) → n ≤ madeMost → Fits w64 (m + n)
+pub text-fits : (m n k : ℕ) → m ≡ length (numberBytes k) → n ≤ rowTextMost → Fits w64 (m + n)
 text-fits m n k e h = omega (arith, number-few m k e)
 
-pub source-small : (m n k : ℕ) → m ≡ length (numberBytes k) → n ≤ madeMost → m + n ≤ textMost
+pub source-small : (m n k : ℕ) → m ≡ length (numberBytes k) → n ≤ rowTextMost → m + n ≤ textMost
 source-small m n k e h = omega (arith, number-few m k e)
 
-pub destination-small : (m n k : ℕ) → m ≡ length (numberBytes k) → n ≤ madeMost → m + n ≤ textMost
+pub destination-small : (m n k : ℕ) → m ≡ length (numberBytes k) → n ≤ rowTextMost → m + n ≤ textMost
 destination-small m n k e h = omega (arith, number-few m k e)
 
 pub two-fit : (a b i j : ℕ) → a ≡ length (numberBytes i) → b ≡ length (numberBytes j) → Fits w64 (a + b)
@@ -126,8 +126,8 @@ module _ (specs name : Text) (item spec kind : ℕ) (source destination : RowTex
   third = destinationBytes (rowTextMeant specs name destination)
 
   -- its bytes
-  pieces : rowBytes (rowMeant specs name item spec kind source destination) ≡ first ++ (second ++ third)
-  unfolding rowBytes rowMeant
+  pieces : rowBytes (rowOfTexts specs name item spec kind source destination) ≡ first ++ (second ++ third)
+  unfolding rowBytes rowOfTexts
   pieces =
       let a = numberBytes item in
       let b = numberBytes spec in
@@ -135,7 +135,7 @@ module _ (specs name : Text) (item spec kind : ℕ) (source destination : RowTex
       sym (append-assoc a (b ++ c) (second ++ third) ∙ ap (λ (x : Text). a ++ x) (append-assoc b c (second ++ third)))
 
   -- how many there are
-  pub row-size : (a b c s d : ℕ) → a ≡ length (numberBytes item) → b ≡ length (numberBytes spec) → c ≡ length (numberBytes kind) → s ≡ length (textBytes (orEmpty (rowTextMeant specs name source))) → d ≡ length (destinationBytes (rowTextMeant specs name destination)) → a + b + c + s + d ≡ length (rowBytes (rowMeant specs name item spec kind source destination))
+  pub row-size : (a b c s d : ℕ) → a ≡ length (numberBytes item) → b ≡ length (numberBytes spec) → c ≡ length (numberBytes kind) → s ≡ length (textBytes (orEmpty (rowTextMeant specs name source))) → d ≡ length (destinationBytes (rowTextMeant specs name destination)) → a + b + c + s + d ≡ length (rowBytes (rowOfTexts specs name item spec kind source destination))
   row-size a b c s d ea eb ec es ed =
       let A = numberBytes item in
       let B = numberBytes spec in
@@ -143,7 +143,7 @@ module _ (specs name : Text) (item spec kind : ℕ) (source destination : RowTex
       omega (arith, ap length pieces, length-append first (second ++ third), length-append A (B ++ C), length-append B C, length-append second third)
 
   -- it is written
-  module _ (d : Text) (at : ℕ) (fits : at + length (rowBytes (rowMeant specs name item spec kind source destination)) ≤ length d) where
+  module _ (d : Text) (at : ℕ) (fits : at + length (rowBytes (rowOfTexts specs name item spec kind source destination)) ≤ length d) where
     all : at + length (first ++ (second ++ third)) ≤ length d
     all = rw pieces at fits
 
@@ -158,8 +158,8 @@ module _ (specs name : Text) (item spec kind : ℕ) (source destination : RowTex
         pub row-third : j + length (destinationBytes (rowTextMeant specs name destination)) ≤ length p
         row-third = three-third d at first second third all o i eo ei p j ep ej
 
-        pub row-put : (q : Text) → q ≡ splice p j (destinationBytes (rowTextMeant specs name destination)) → q ≡ splice d at (rowBytes (rowMeant specs name item spec kind source destination))
+        pub row-put : (q : Text) → q ≡ splice p j (destinationBytes (rowTextMeant specs name destination)) → q ≡ splice d at (rowBytes (rowOfTexts specs name item spec kind source destination))
         row-put q e = rw pieces (three-put d at first second third all o i eo ei p j ep ej q e)
 
-        pub row-end : (k : ℕ) → k ≡ j + length (destinationBytes (rowTextMeant specs name destination)) → k ≡ at + length (rowBytes (rowMeant specs name item spec kind source destination))
+        pub row-end : (k : ℕ) → k ≡ j + length (destinationBytes (rowTextMeant specs name destination)) → k ≡ at + length (rowBytes (rowOfTexts specs name item spec kind source destination))
         row-end k e = rw pieces (three-end d at first second third all o i eo ei p j ep ej k e)

@@ -10,7 +10,7 @@ use Rattle.meaning.specs.Rows.{Row}
 use Rattle.matcher.specs.declared.types.RowText.{RowText}
 use Rattle.matcher.specs.declared.types.RowText.the-variants.{Absent, Name, Led, Filled}
 use Rattle.matcher.specs.Matching.{rowTextMeant, RowTextWithin}
-use Rattle.row_text.specs.Leads.{madeMost}
+use Rattle.row_text.specs.Leads.{rowTextMost}
 
 -- a text is not there
 abbrev pub isAbsent : RowText → Bool
@@ -33,8 +33,8 @@ pub record RowWithin (len nameLen item spec kind : ℕ) (source destination : Ro
   pub destination-within : RowTextWithin len nameLen destination
 
 -- the row that is meant
-unfoldable pub rowMeant : Text → Text → ℕ → ℕ → ℕ → RowText → RowText → Row
-rowMeant s name item spec kind source destination =
+unfoldable pub rowOfTexts : Text → Text → ℕ → ℕ → ℕ → RowText → RowText → Row
+rowOfTexts s name item spec kind source destination =
     record {
       item = item;
       spec = spec;
@@ -53,7 +53,7 @@ presentBytes t = numberBytes (suc (length t)) ++ t
 
 -- a text with its length before it has at most so many bytes
 abbrev pub textMost : ℕ
-textMost = numberGroups + madeMost
+textMost = numberGroups + rowTextMost
 
 -- and a row: three numbers and two such texts
 abbrev pub rowMost : ℕ

@@ -8,7 +8,7 @@ ghost use Rattle.meaning.specs.Number.{textBytes};
 ghost use Rattle.meaning.specs.Rows.{destinationBytes, rowBytes};
 ghost use Rattle.buffer.specs.Splice.{splice};
 ghost use Rattle.matcher.specs.Matching.{rowTextMeant, RowTextWithin};
-ghost use Rattle.row.specs.Rows.{ShortTexts, RowWithin, isAbsent, rowMeant, rowNumbers, presentBytes, textMost, rowMost};
+ghost use Rattle.row.specs.Rows.{ShortTexts, RowWithin, isAbsent, rowOfTexts, rowNumbers, presentBytes, textMost, rowMost};
 use matcher::types::RowText;
 use row_text::put_row_text;
 use row_text::row_text_size;
@@ -62,7 +62,7 @@ pub fn row_size(
     destination: RowText,
 ) -> usize
     requires { ⌜ ShortTexts (now specs) (now name) × RowWithin (length (now specs)) (length (now name)) (numbers .item) (numbers .spec) (numbers .kind) source destination ⌝ }
-    ensures { λ r. ⌜ (r ≡ length (rowBytes (rowMeant (now (specs .entry)) (now (name .entry)) (numbers .item) (numbers .spec) (numbers .kind) source destination))) × (r ≤ rowMost) ⌝ }
+    ensures { λ r. ⌜ (r ≡ length (rowBytes (rowOfTexts (now (specs .entry)) (now (name .entry)) (numbers .item) (numbers .spec) (numbers .kind) source destination))) × (r ≤ rowMost) ⌝ }
 {
     let three = number::size(numbers.item)
         + number::size(numbers.spec)
@@ -127,8 +127,8 @@ pub fn put_row(
     source: RowText,
     destination: RowText,
 ) -> usize
-    requires { ⌜ ShortTexts (now specs) (now name) × RowWithin (length (now specs)) (length (now name)) (numbers .item) (numbers .spec) (numbers .kind) source destination × (at + length (rowBytes (rowMeant (now specs) (now name) (numbers .item) (numbers .spec) (numbers .kind) source destination)) ≤ length (now out)) ⌝ }
-    ensures { λ r. ⌜ (now (out .exit) ≡ splice (now (out .entry)) at (rowBytes (rowMeant (now (specs .entry)) (now (name .entry)) (numbers .item) (numbers .spec) (numbers .kind) source destination))) × (r ≡ at + length (rowBytes (rowMeant (now (specs .entry)) (now (name .entry)) (numbers .item) (numbers .spec) (numbers .kind) source destination))) ⌝ }
+    requires { ⌜ ShortTexts (now specs) (now name) × RowWithin (length (now specs)) (length (now name)) (numbers .item) (numbers .spec) (numbers .kind) source destination × (at + length (rowBytes (rowOfTexts (now specs) (now name) (numbers .item) (numbers .spec) (numbers .kind) source destination)) ≤ length (now out)) ⌝ }
+    ensures { λ r. ⌜ (now (out .exit) ≡ splice (now (out .entry)) at (rowBytes (rowOfTexts (now (specs .entry)) (now (name .entry)) (numbers .item) (numbers .spec) (numbers .kind) source destination))) × (r ≡ at + length (rowBytes (rowOfTexts (now (specs .entry)) (now (name .entry)) (numbers .item) (numbers .spec) (numbers .kind) source destination))) ⌝ }
 {
     let i = put_numbers(out, at, numbers);
     let j = put_source(out, i, specs, name, source);

@@ -27,9 +27,9 @@ unfoldable pub afterItem : ℕ → Reader Row
 afterItem i = readNumber >>= afterSpec i
 
 -- what is left after a part; nothing where it was refused
-abbrev pub left : {A : Type 0} → Step A → Text
-left (took a rest) = rest
-left (no n) = []
+abbrev pub leftAfter : {A : Type 0} → Step A → Text
+leftAfter (took a rest) = rest
+leftAfter (no n) = []
 
 -- a destination that was read; nothing where it was refused, or where there is none
 abbrev pub destinationOr : Step (Option Text) → Text
@@ -42,6 +42,6 @@ destinationIn (took r rest) = orEmpty (r .destination)
 destinationIn (no n) = []
 
 -- a stretch of s is a text, and stands within s
-pub record Spells (s t : Text) (d : Stretch) : Type 0 where
+pub record StretchSpells (s t : Text) (d : Stretch) : Type 0 where
   pub is : partAt s (d .at) (d .len) ≡ t
   pub within : d .at + d .len ≤ length s

@@ -7,7 +7,7 @@ ghost use Rattle.meaning.specs.Number.{numberBytes, readNumber, readText};
 ghost use Rattle.meaning.specs.Rows.{destinationAfter, readDestination, readFront};
 ghost use Rattle.parse.specs.Places.{partAt};
 ghost use Rattle.row_fields.specs.Fields.{frontAt, FrontSays, DestinationSays};
-ghost use Rattle.row_fields.specs.Stages.{afterSource, afterKind, afterSpec, afterItem, left, destinationOr, destinationIn, Spells};
+ghost use Rattle.row_fields.specs.Stages.{afterSource, afterKind, afterSpec, afterItem, leftAfter, destinationOr, destinationIn, StretchSpells};
 use list::cursor::Cursor;
 use list::cursor::Step;
 use number::Number;
@@ -149,7 +149,7 @@ pub fn read_front(s: &[u8], at: usize) -> Front
 
 // The place after the number at a place; the end of the list where none is well formed, so that nothing is after it.
 fn past_number(s: &[u8], at: usize) -> usize
-    ensures { λ r. ⌜ drop r (now (s .entry)) ≡ left (readNumber (drop at (now (s .entry)))) ⌝ }
+    ensures { λ r. ⌜ drop r (now (s .entry)) ≡ leftAfter (readNumber (drop at (now (s .entry)))) ⌝ }
 {
     match number::read(s, at) {
         Number::Is { value: _, next } => next,
@@ -159,7 +159,7 @@ fn past_number(s: &[u8], at: usize) -> usize
 
 // The place after the text at a place; the end of the list where none is well formed.
 fn past_text(s: &[u8], at: usize) -> usize
-    ensures { λ r. ⌜ drop r (now (s .entry)) ≡ left (readText (drop at (now (s .entry)))) ⌝ }
+    ensures { λ r. ⌜ drop r (now (s .entry)) ≡ leftAfter (readText (drop at (now (s .entry)))) ⌝ }
 {
     let c = Cursor { at };
     match c.next(s) {
@@ -175,7 +175,7 @@ fn past_text(s: &[u8], at: usize) -> usize
 
 // The bytes of the destination whose number stands at a place; none where it is absent or malformed.
 fn destination_bytes(s: &[u8], at: usize) -> Stretch
-    ensures { λ r. ⌜ Spells (now (s .entry)) (destinationOr (readDestination (drop at (now (s .entry))))) r ⌝ }
+    ensures { λ r. ⌜ StretchSpells (now (s .entry)) (destinationOr (readDestination (drop at (now (s .entry))))) r ⌝ }
 {
     match read_destination(s, at) {
         Destination::Absent { next: _ } => Stretch { at: 0, len: 0 },
@@ -186,7 +186,7 @@ fn destination_bytes(s: &[u8], at: usize) -> Stretch
 
 // The destination of the row that begins at a place: what stands before it is passed over.
 pub fn destination_at(s: &[u8], at: usize) -> Stretch
-    ensures { λ r. ⌜ Spells (now (s .entry)) (destinationIn (readFront (drop at (now (s .entry))))) r ⌝ }
+    ensures { λ r. ⌜ StretchSpells (now (s .entry)) (destinationIn (readFront (drop at (now (s .entry))))) r ⌝ }
 {
     let spec = past_number(s, at);
     let kind = past_number(s, spec);

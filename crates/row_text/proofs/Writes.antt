@@ -24,9 +24,9 @@ use Rattle.matcher.specs.declared.types.Lead.{Lead}
 use Rattle.matcher.specs.declared.types.Lead.the-variants as lead
 use Rattle.matcher.specs.declared.types.Filled.{Filled}
 use Rattle.matcher.specs.declared.types.RowText.{RowText}
-use Rattle.matcher.specs.declared.types.RowText.the-variants as made
+use Rattle.matcher.specs.declared.types.RowText.the-variants as row-text
 use Rattle.matcher.specs.Matching.{ledText, filledText, rowTextMeant, RowTextWithin, FilledWithin}
-use Rattle.row_text.specs.Leads.{leadSize, madeMost}
+use Rattle.row_text.specs.Leads.{leadSize, rowTextMost}
 
 -- ---- how many bytes
 
@@ -59,7 +59,7 @@ module _ (specs : Text) (l : Lead) (s : Side) (u : Text) (eu : u ≡ sideText sp
 
   module _ (w : Within (length specs) s) (few : length specs ≤ specListBytes) where
     -- which are not many
-    pub led-most : n + length u ≤ madeMost
+    pub led-most : n + length u ≤ rowTextMost
     led-most = omega (arith, ap length eu, lead-short l, side-short specs s w)
 
     -- so a machine's number holds them
@@ -68,17 +68,17 @@ module _ (specs : Text) (l : Lead) (s : Side) (u : Text) (eu : u ≡ sideText sp
 
 -- the arms of a `match` on what a match makes
 module _ (specs name : Text) (m : RowText) where
-  module _ (is : m ≡ made.Name) where
+  module _ (is : m ≡ row-text.Name) where
     pub name-size : length name ≡ length (orEmpty (rowTextMeant specs name m))
     name-size = rw is
 
     pub name-text : partAt name 0 (length name) ≡ orEmpty (rowTextMeant specs name m)
     name-text = rw is (take-all (length name) name (omega arith))
 
-  pub nothing-text : m ≡ made.Absent → [] ≡ orEmpty (rowTextMeant specs name m)
+  pub nothing-text : m ≡ row-text.Absent → [] ≡ orEmpty (rowTextMeant specs name m)
   nothing-text is = rw is
 
-  module _ (l : Lead) (s : Side) (is : m ≡ made.Led l s) where
+  module _ (l : Lead) (s : Side) (is : m ≡ row-text.Led l s) where
     -- a side that is led stands within the list
     pub made-led-within : (len nameLen : ℕ) → RowTextWithin len nameLen m → Within len s
     made-led-within len nameLen h = rw is at h
@@ -89,7 +89,7 @@ module _ (specs name : Text) (m : RowText) where
     pub made-led-text : ledText l (sideText specs s) ≡ orEmpty (rowTextMeant specs name m)
     made-led-text = rw is
 
-  module _ (f : Filled) (is : m ≡ made.Filled f) where
+  module _ (f : Filled) (is : m ≡ row-text.Filled f) where
     -- so does a pattern that is filled
     pub made-filled-within : (len nameLen : ℕ) → RowTextWithin len nameLen m → FilledWithin len nameLen f
     made-filled-within len nameLen h = rw is at h

@@ -13,5 +13,5 @@ leadSize lead.HeadsDigits = 11
 leadSize lead.Digits = 0
 
 -- a text that a match makes has at most so many bytes: two parts of a spec list and one of a name
-abbrev pub madeMost : ℕ
-madeMost = 2 * specListBytes + nameBytes
+abbrev pub rowTextMost : ℕ
+rowTextMost = 2 * specListBytes + nameBytes

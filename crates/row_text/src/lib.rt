@@ -9,7 +9,7 @@ ghost use Rattle.buffer.specs.Splice.{splice};
 ghost use Rattle.parse.specs.Places.{partAt, Within};
 ghost use Rattle.refspec.specs.Instructions.{sideText};
 ghost use Rattle.matcher.specs.Matching.{ledText, filledText, FilledWithin, rowTextMeant, RowTextWithin};
-ghost use Rattle.row_text.specs.Leads.{leadSize, madeMost};
+ghost use Rattle.row_text.specs.Leads.{leadSize, rowTextMost};
 use matcher::types::Filled;
 use matcher::types::Lead;
 use matcher::types::RowText;
@@ -32,7 +32,7 @@ fn lead_size(lead: Lead) -> usize
 // How many bytes a side has that is led.
 fn led_size(specs: &[u8], lead: Lead, side: Side) -> usize
     requires { ⌜ Within (length (now specs)) side × (length (now specs) ≤ specListBytes) ⌝ }
-    ensures { λ r. ⌜ (r ≡ length (ledText lead (sideText (now (specs .entry)) side))) × (r ≤ madeMost) ⌝ }
+    ensures { λ r. ⌜ (r ≡ length (ledText lead (sideText (now (specs .entry)) side))) × (r ≤ rowTextMost) ⌝ }
 {
     let t = text_of(specs, b"HEAD", side);
     lead_size(lead) + t.len()
@@ -41,7 +41,7 @@ fn led_size(specs: &[u8], lead: Lead, side: Side) -> usize
 // How many bytes three parts have.
 fn parts_size(a: usize, b: usize, c: usize) -> usize
     requires { ⌜ (a ≤ specListBytes) × (b ≤ nameBytes) × (c ≤ specListBytes) ⌝ }
-    ensures { λ r. ⌜ (r ≡ a + (b + c)) × (r ≤ madeMost) ⌝ }
+    ensures { λ r. ⌜ (r ≡ a + (b + c)) × (r ≤ rowTextMost) ⌝ }
 {
     a + b + c
 }
@@ -49,7 +49,7 @@ fn parts_size(a: usize, b: usize, c: usize) -> usize
 // How many bytes a text has that a match makes; an absent one has none.
 pub fn row_text_size(specs: &[u8], name: &[u8], made: RowText) -> usize
     requires { ⌜ RowTextWithin (length (now specs)) (length (now name)) made × (length (now specs) ≤ specListBytes) × (length (now name) ≤ nameBytes) ⌝ }
-    ensures { λ r. ⌜ (r ≡ length (orEmpty (rowTextMeant (now (specs .entry)) (now (name .entry)) made))) × (r ≤ madeMost) ⌝ }
+    ensures { λ r. ⌜ (r ≡ length (orEmpty (rowTextMeant (now (specs .entry)) (now (name .entry)) made))) × (r ≤ rowTextMost) ⌝ }
 {
     match made {
         RowText::Absent => 0,

@@ -18,8 +18,8 @@ use Rattle.filter.specs.declared.Filter.{Filter}
 use Rattle.filter.specs.Filters.{passes, nameAt, StopsForward, StopsReverse}
 use Rattle.filter.proofs.Looks.{none-passes}
 use Rattle.row.specs.Rows.{rowMost}
-use Rattle.match_row.specs.Pairs.{specOf, itemBytes, objectBytes}
-use Rattle.match_row.specs.Asking.{Ready}
+use Rattle.match_row.specs.Pairs.{matcherSpec, itemBytes, objectBytes}
+use Rattle.match_row.specs.Asking.{MatcherReady}
 use Rattle.search.specs.Hits.{across, specAt, pairGives, namesGive, specGives, hitStride, hitOf, hitMost, hitIf, pairHits, namesHits, specHits}
 use Rattle.search.specs.Noting.{specMost, groupMost, objectsMost, PlacesIn, TableReady, Stops, Adds}
 use Rattle.search.proofs.Across.{across-next, across-none, across-jump}
@@ -61,7 +61,7 @@ module _ (specs : Text) (table : List ℕ) (group : ℕ) (t : TableReady specs t
   pub matcher-room : matcherNumbers * i + matcherNumbers ≤ length table
   matcher-room = omega (arith, t .few, t .room)
 
-  pub matcher-ready : (m : Matcher) → m ≡ matcherAt table i → Ready specs m
+  pub matcher-ready : (m : Matcher) → m ≡ matcherAt table i → MatcherReady specs m
   matcher-ready m e = rw e (t .ready i h)
 
   pub spec-few : i ≤ specCount
@@ -69,12 +69,12 @@ module _ (specs : Text) (table : List ℕ) (group : ℕ) (t : TableReady specs t
 
 -- ---- a filter
 
-module _ (back : Bool) (specs : Text) (m : Matcher) (f : Filter) (r : Ready specs m) where
+module _ (back : Bool) (specs : Text) (m : Matcher) (f : Filter) (r : MatcherReady specs m) where
   pub stops-back : back ≡ true → StopsReverse specs m f → Stops back specs m f
-  stops-back e h = rw e (record { stops = λ name l p. h .stops name l p (specOf specs m) (r .matches); within = h .within })
+  stops-back e h = rw e (record { stops = λ name l p. h .stops name l p (matcherSpec specs m) (r .matches); within = h .within })
 
   pub stops-on : back ≡ false → StopsForward specs m f → Stops back specs m f
-  stops-on e h = rw e (record { stops = λ name l p. h .stops name l p (specOf specs m) (r .matches); within = h .within })
+  stops-on e h = rw e (record { stops = λ name l p. h .stops name l p (matcherSpec specs m) (r .matches); within = h .within })
 
 -- ---- the names under one spec
 
@@ -87,7 +87,7 @@ pub record NamesFound (back : Bool) (gone : Text → Bool) (s : Spec) (items : T
 
 module _ (back : Bool) (gone : Text → Bool) (specs : Text) (m : Matcher) (f : Filter) (st : Stops back specs m f) (items : Text) (places : List ℕ) (n : ℕ) (p : PlacesIn items places n) (i : ℕ) where
   abbrev s : Spec
-  s = specOf specs m
+  s = matcherSpec specs m
 
   abbrev bytesOf : ℕ → Text
   bytesOf = pairGives back gone s items places i
@@ -111,7 +111,7 @@ module _ (back : Bool) (gone : Text → Bool) (specs : Text) (m : Matcher) (f : 
     jump-hits = across-jump hitsOf a b n l within (λ k q r. stopped-hit k (omega arith) (off k q r))
 
   pub names-begin : (hits : List ℕ) (noted j : ℕ) → 0 ≤ j → j ≤ n → ((k : ℕ) → 0 ≤ k → k < j → passes f (nameAt items places k) ≡ false)
-      → NamesFound back gone (specOf specs m) items places n i hits noted hits 0 noted j
+      → NamesFound back gone (matcherSpec specs m) items places n i hits noted hits 0 noted j
   names-begin hits noted j z l off =
       let e : n - 0 ≡ n = omega arith in
       record {
@@ -121,12 +121,12 @@ module _ (back : Bool) (gone : Text → Bool) (specs : Text) (m : Matcher) (f : 
         noting = noting-starts hits noted (across hitsOf 0 n) (across hitsOf j (n - j)) (rw e at (jump-hits 0 j z l off));
       }
 
-  module _ (first : List ℕ) (start : ℕ) (hits : List ℕ) (size known j : ℕ) (c : NamesFound back gone (specOf specs m) items places n i first start hits size known j) where
+  module _ (first : List ℕ) (start : ℕ) (hits : List ℕ) (size known j : ℕ) (c : NamesFound back gone (matcherSpec specs m) items places n i first start hits size known j) where
     -- one name more
-    pub names-next : j < n → (k : ℕ) (name : Text) → k ≡ length (itemBytes back gone i j name (specOf specs m)) → (at len : ℕ) → name ≡ partAt items at len → at ≡ getD places (2 * j) 0 → len ≡ getD places (2 * j + 1) 0 → k ≤ rowMost
-        → (after : List ℕ) (next : ℕ) → Adds hits known (hitIf (length (itemBytes back gone i j name (specOf specs m))) (hitOf i (j + 1))) after next
+    pub names-next : j < n → (k : ℕ) (name : Text) → k ≡ length (itemBytes back gone i j name (matcherSpec specs m)) → (at len : ℕ) → name ≡ partAt items at len → at ≡ getD places (2 * j) 0 → len ≡ getD places (2 * j + 1) 0 → k ≤ rowMost
+        → (after : List ℕ) (next : ℕ) → Adds hits known (hitIf (length (itemBytes back gone i j name (matcherSpec specs m))) (hitOf i (j + 1))) after next
         → (to : ℕ) → j + 1 ≤ to → to ≤ n → ((k : ℕ) → j + 1 ≤ k → k < to → passes f (nameAt items places k) ≡ false)
-        → NamesFound back gone (specOf specs m) items places n i first start after (size + k) next to
+        → NamesFound back gone (matcherSpec specs m) items places n i first start after (size + k) next to
     names-next h k name es at len en ea el ks after next a to l w off =
         let e : name ≡ nameAt items places j = rw (ea, el) at en in
         let text = across-next bytesOf j n h in
@@ -146,30 +146,30 @@ module _ (back : Bool) (gone : Text → Bool) (specs : Text) (m : Matcher) (f : 
     pub names-small : size ≤ specMost
     names-small = omega (arith, c .counted .small, c .there, p .few)
 
-    pub names-measured : n ≤ j → size ≡ length (namesGive back gone (specOf specs m) items places n i)
+    pub names-measured : n ≤ j → size ≡ length (namesGive back gone (matcherSpec specs m) items places n i)
     names-measured h = counted-whole (across bytesOf 0 n) size (across bytesOf j (n - j)) j rowMost (c .counted) (across-none bytesOf j n h)
 
-    pub names-noted : n ≤ j → Adds first start (namesHits back gone (specOf specs m) items places n i) hits known
+    pub names-noted : n ≤ j → Adds first start (namesHits back gone (matcherSpec specs m) items places n i) hits known
     names-noted h = noting-done first start (across hitsOf 0 n) hits known (across hitsOf j (n - j)) (c .noting) (across-none hitsOf j n h)
 
   -- where no name passes, none gives anything
   module _ (empty : f .most < f .least) (hits : List ℕ) (noted : ℕ) where
-    all-stopped : NamesFound back gone (specOf specs m) items places n i hits noted hits 0 noted n
+    all-stopped : NamesFound back gone (matcherSpec specs m) items places n i hits noted hits 0 noted n
     all-stopped = names-begin hits noted n (omega arith) (omega arith) (λ k a b. none-passes f empty (nameAt items places k))
 
-    pub stopped-measured : 0 ≡ length (namesGive back gone (specOf specs m) items places n i)
+    pub stopped-measured : 0 ≡ length (namesGive back gone (matcherSpec specs m) items places n i)
     stopped-measured = names-measured hits noted hits 0 noted n all-stopped (omega arith)
 
-    pub stopped-noted : Adds hits noted (namesHits back gone (specOf specs m) items places n i) hits noted
+    pub stopped-noted : Adds hits noted (namesHits back gone (matcherSpec specs m) items places n i) hits noted
     stopped-noted = names-noted hits noted hits 0 noted n all-stopped (omega arith)
 
 -- ---- one spec of a table
 
 module _ (back : Bool) (gone : Text → Bool) (specs : Text) (table : List ℕ) (items : Text) (places : List ℕ) (n i : ℕ) (m : Matcher) (e : m ≡ matcherAt table i) where
-  pub spec-measured : (k : ℕ) → k ≡ length (namesGive back gone (specOf specs m) items places n i) → k ≡ length (specGives back gone specs table items places n i)
+  pub spec-measured : (k : ℕ) → k ≡ length (namesGive back gone (matcherSpec specs m) items places n i) → k ≡ length (specGives back gone specs table items places n i)
   spec-measured k h = rw e at h
 
-  pub spec-noted : (hits : List ℕ) (count : ℕ) (after : List ℕ) (next : ℕ) → Adds hits count (namesHits back gone (specOf specs m) items places n i) after next → Adds hits count (specHits back gone specs table items places n i) after next
+  pub spec-noted : (hits : List ℕ) (count : ℕ) (after : List ℕ) (next : ℕ) → Adds hits count (namesHits back gone (matcherSpec specs m) items places n i) after next → Adds hits count (specHits back gone specs table items places n i) after next
   spec-noted hits count after next a = rw e at a
 
 -- ---- members in a row, each of which gives a text and hits
@@ -225,10 +225,10 @@ module _ (text : ℕ → Text) (codes : ℕ → List ℕ) (group : ℕ) (few : g
 -- ---- one spec as an object source
 
 module _ (specs : Text) (table : List ℕ) (i : ℕ) (m : Matcher) (e : m ≡ matcherAt table i) where
-  pub object-measured : (k : ℕ) → k ≡ length (objectBytes i (specOf specs m)) → k ≡ length (objectBytes i (specAt specs table i))
+  pub object-measured : (k : ℕ) → k ≡ length (objectBytes i (matcherSpec specs m)) → k ≡ length (objectBytes i (specAt specs table i))
   object-measured k h = rw e at h
 
-  pub object-noted : (k : ℕ) → k ≡ length (objectBytes i (specOf specs m)) → (hits : List ℕ) (count : ℕ) (after : List ℕ) (next : ℕ) → Adds hits count (hitIf k (hitStride * i)) after next
+  pub object-noted : (k : ℕ) → k ≡ length (objectBytes i (matcherSpec specs m)) → (hits : List ℕ) (count : ℕ) (after : List ℕ) (next : ℕ) → Adds hits count (hitIf k (hitStride * i)) after next
       → Adds hits count (hitIf (length (objectBytes i (specAt specs table i))) (hitOf i 0)) after next
   object-noted k h hits count after next a =
       let z : hitStride * i ≡ hitOf i 0 = omega arith in

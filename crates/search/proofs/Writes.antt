@@ -15,8 +15,8 @@ use Rattle.parse.specs.Places.{partAt}
 use Rattle.parse.proofs.Parts.{part-length}
 use Rattle.matcher.specs.declared.types.Matcher.{Matcher}
 use Rattle.matcher_table.specs.Numbers.{matcherNumbers, matcherAt}
-use Rattle.match_row.specs.Pairs.{specOf, fieldBytes}
-use Rattle.match_row.specs.Asking.{Ready, Put}
+use Rattle.match_row.specs.Pairs.{matcherSpec, fieldBytes}
+use Rattle.match_row.specs.Asking.{MatcherReady, Put}
 use Rattle.search.specs.Hits.{hitStride, fieldStart, fieldSize, underSpec, hitBytes}
 use Rattle.search.specs.Noting.{PlacesIn, TableReady, Good, AllGood}
 
@@ -126,18 +126,18 @@ module _ (back : Bool) (specs : Text) (table : List ℕ) (group : ℕ) (t : Tabl
   turn-item = good .item-there
 
   module _ (m : Matcher) (em : m ≡ matcherAt table (hit / hitStride)) where
-    pub turn-ready : Ready specs m
+    pub turn-ready : MatcherReady specs m
     turn-ready = rw em (t .ready (hit / hitStride) (good .spec-there))
 
-    own : underSpec back items places hit (specOf specs m) ≡ hitBytes back specs table items places hit
+    own : underSpec back items places hit (matcherSpec specs m) ≡ hitBytes back specs table items places hit
     own = rw em
 
-    pub turn-gives : 0 < length (underSpec back items places hit (specOf specs m))
+    pub turn-gives : 0 < length (underSpec back items places hit (matcherSpec specs m))
     turn-gives = rw own (good .gives)
 
     module _ (first : Text) (at : ℕ) (out : Text) (end : ℕ) (w : HitsWritten (hitBytes back specs table items places) hits first at k out end) where
-      pub turn-room : end + length (underSpec back items places hit (specOf specs m)) ≤ length out
+      pub turn-room : end + length (underSpec back items places hit (matcherSpec specs m)) ≤ length out
       turn-room = hits-room (hitBytes back specs table items places) hits first at k out end w h hit e _ own
 
-      pub turn-next : (o : Text) (r : ℕ) → Put out end (underSpec back items places hit (specOf specs m)) o r → HitsWritten (hitBytes back specs table items places) hits first at (k + 1) o r
+      pub turn-next : (o : Text) (r : ℕ) → Put out end (underSpec back items places hit (matcherSpec specs m)) o r → HitsWritten (hitBytes back specs table items places) hits first at (k + 1) o r
       turn-next o r p = hits-next (hitBytes back specs table items places) hits first at k out end w h hit e _ own o r p

@@ -10,7 +10,7 @@ use Rattle.meaning.specs.Spec.{Spec}
 use Rattle.parse.specs.Places.{partAt}
 use Rattle.matcher_table.specs.Numbers.{matcherAt}
 use Rattle.filter.specs.Filters.{nameAt}
-use Rattle.match_row.specs.Pairs.{specOf, itemBytes, objectBytes, fieldBytes}
+use Rattle.match_row.specs.Pairs.{matcherSpec, itemBytes, objectBytes, fieldBytes}
 
 -- what each number from i on gives, k of them
 abbrev pub across : {B : Type 0} → (ℕ → List B) → ℕ → ℕ → List B
@@ -19,7 +19,7 @@ across f i (suc k) = f i ++ across f (suc i) k
 
 -- spec number i of a table
 abbrev pub specAt : Text → List ℕ → ℕ → Spec
-specAt specs table i = specOf specs (matcherAt table i)
+specAt specs table i = matcherSpec specs (matcherAt table i)
 
 -- what name j gives under spec i, which is s, unless its source is gone
 abbrev pub pairGives : Bool → (Text → Bool) → Spec → Text → List ℕ → ℕ → ℕ → Text

@@ -12,8 +12,8 @@ use Rattle.matcher_table.specs.Numbers.{matcherNumbers, matcherAt}
 use Rattle.filter.specs.declared.Filter.{Filter}
 use Rattle.filter.specs.Filters.{passes, FilterWithin}
 use Rattle.row.specs.Rows.{rowMost}
-use Rattle.match_row.specs.Pairs.{specOf, endsIn}
-use Rattle.match_row.specs.Asking.{Ready}
+use Rattle.match_row.specs.Pairs.{matcherSpec, endsIn}
+use Rattle.match_row.specs.Asking.{MatcherReady}
 use Rattle.search.specs.Hits.{hitStride, hitBytes}
 
 -- so many bytes has at most what one spec gives, what all specs give, and what they give as object sources
@@ -42,11 +42,11 @@ pub record PlacesIn (items : Text) (places : List ℕ) (n : ℕ) : Type 0 where
 pub record TableReady (specs : Text) (table : List ℕ) (n : ℕ) : Type 0 where
   pub few : n ≤ specCount
   pub room : matcherNumbers * n ≤ length table
-  pub ready : (i : ℕ) → i < n → Ready specs (matcherAt table i)
+  pub ready : (i : ℕ) → i < n → MatcherReady specs (matcherAt table i)
 
 -- what a filter stops has no row under the spec of a matcher, forward or in reverse
 pub record Stops (back : Bool) (specs : Text) (m : Matcher) (f : Filter) : Type 0 where
-  pub stops : (name : Text) → length name ≤ nameBytes → passes f name ≡ false → endsIn back (specOf specs m) name ≡ none
+  pub stops : (name : Text) → length name ≤ nameBytes → passes f name ≡ false → endsIn back (matcherSpec specs m) name ≡ none
   pub within : FilterWithin f
 
 -- t was noted after the first count hits, if there was room for all of it; those before it are kept

@@ -7,8 +7,8 @@ ghost use Rattle.meaning.specs.Limits.{itemListBytes, nameBytes, itemCount, spe
 ghost use Rattle.parse.specs.Places.{partAt};
 ghost use Rattle.negatives.specs.Negatives.{excludedBy};
 ghost use Rattle.row.specs.Rows.{rowMost};
-ghost use Rattle.match_row.specs.Pairs.{specOf, itemBytes};
-ghost use Rattle.match_row.specs.Asking.{Askable, Ready};
+ghost use Rattle.match_row.specs.Pairs.{matcherSpec, itemBytes};
+ghost use Rattle.match_row.specs.Asking.{Askable, MatcherReady};
 ghost use Rattle.search.specs.Hits.{hitOf, hitMost, hitIf, namesGive, specGives, groupGives, objectsGive, namesHits, specHits, groupHits, objectHits};
 ghost use Rattle.search.specs.Noting.{specMost, groupMost, objectsMost, hitRoom, PlacesIn, TableReady, Stops, Adds};
 use super::scope::Scope;
@@ -56,7 +56,7 @@ fn narrow(hit: usize) -> u32
 
 // The filter of a spec's rows, forward or in reverse.
 fn filter_of(back: bool, specs: &[u8], m: Matcher) -> Filter
-    requires { ⌜ Ready (now specs) m ⌝ }
+    requires { ⌜ MatcherReady (now specs) m ⌝ }
     ensures { λ f. ⌜ Stops back (now (specs .entry)) m f ⌝ }
 {
     if back {
@@ -90,9 +90,9 @@ fn name_found(
     negatives: &[u16],
     hits: &mut [u32],
 ) -> Found
-    requires { ⌜ Ready (now specs) m × Askable (now specs) (now negatives) (turn .scope .negatives) × (turn .spec ≤ specCount) × (j < itemCount) × (length (now name) ≤ nameBytes) × (length (now hits) ≤ hitRoom) ⌝ }
-    ensures { λ x. ⌜ (x .size ≡ length (itemBytes (turn .scope .back) (excludedBy (now (specs .entry)) (now (negatives .entry)) (turn .scope .negatives)) (turn .spec) j (now (name .entry)) (specOf (now (specs .entry)) m))) × (x .size ≤ rowMost)
-        × Adds (now (hits .entry)) (turn .at) (hitIf (length (itemBytes (turn .scope .back) (excludedBy (now (specs .entry)) (now (negatives .entry)) (turn .scope .negatives)) (turn .spec) j (now (name .entry)) (specOf (now (specs .entry)) m))) (hitOf (turn .spec) (j + 1))) (now (hits .exit)) (x .hits) ⌝ }
+    requires { ⌜ MatcherReady (now specs) m × Askable (now specs) (now negatives) (turn .scope .negatives) × (turn .spec ≤ specCount) × (j < itemCount) × (length (now name) ≤ nameBytes) × (length (now hits) ≤ hitRoom) ⌝ }
+    ensures { λ x. ⌜ (x .size ≡ length (itemBytes (turn .scope .back) (excludedBy (now (specs .entry)) (now (negatives .entry)) (turn .scope .negatives)) (turn .spec) j (now (name .entry)) (matcherSpec (now (specs .entry)) m))) × (x .size ≤ rowMost)
+        × Adds (now (hits .entry)) (turn .at) (hitIf (length (itemBytes (turn .scope .back) (excludedBy (now (specs .entry)) (now (negatives .entry)) (turn .scope .negatives)) (turn .spec) j (now (name .entry)) (matcherSpec (now (specs .entry)) m))) (hitOf (turn .spec) (j + 1))) (now (hits .exit)) (x .hits) ⌝ }
 {
     let scope = turn.scope;
     let i = turn.spec;
@@ -112,9 +112,9 @@ fn names_found(
     negatives: &[u16],
     hits: &mut [u32],
 ) -> Found
-    requires { ⌜ Ready (now specs) m × Stops (turn .scope .back) (now specs) m f × (turn .spec ≤ specCount) × PlacesIn (now items) (now places) (turn .scope .names) × Askable (now specs) (now negatives) (turn .scope .negatives) × (length (now hits) ≤ hitRoom) ⌝ }
-    ensures { λ x. ⌜ (x .size ≡ length (namesGive (turn .scope .back) (excludedBy (now (specs .entry)) (now (negatives .entry)) (turn .scope .negatives)) (specOf (now (specs .entry)) m) (now (items .entry)) (now (places .entry)) (turn .scope .names) (turn .spec))) × (x .size ≤ specMost)
-        × Adds (now (hits .entry)) (turn .at) (namesHits (turn .scope .back) (excludedBy (now (specs .entry)) (now (negatives .entry)) (turn .scope .negatives)) (specOf (now (specs .entry)) m) (now (items .entry)) (now (places .entry)) (turn .scope .names) (turn .spec)) (now (hits .exit)) (x .hits) ⌝ }
+    requires { ⌜ MatcherReady (now specs) m × Stops (turn .scope .back) (now specs) m f × (turn .spec ≤ specCount) × PlacesIn (now items) (now places) (turn .scope .names) × Askable (now specs) (now negatives) (turn .scope .negatives) × (length (now hits) ≤ hitRoom) ⌝ }
+    ensures { λ x. ⌜ (x .size ≡ length (namesGive (turn .scope .back) (excludedBy (now (specs .entry)) (now (negatives .entry)) (turn .scope .negatives)) (matcherSpec (now (specs .entry)) m) (now (items .entry)) (now (places .entry)) (turn .scope .names) (turn .spec))) × (x .size ≤ specMost)
+        × Adds (now (hits .entry)) (turn .at) (namesHits (turn .scope .back) (excludedBy (now (specs .entry)) (now (negatives .entry)) (turn .scope .negatives)) (matcherSpec (now (specs .entry)) m) (now (items .entry)) (now (places .entry)) (turn .scope .names) (turn .spec)) (now (hits .exit)) (x .hits) ⌝ }
 {
     let scope = turn.scope;
     let i = turn.spec;

@@ -4,8 +4,8 @@ ghost use Prim.Native.Nat.{_+_, _*_, _/_, _%_, _≤_, _<_};
 ghost use lib.ListN.{length};
 ghost use Rattle.meaning.specs.Bytes.{each};
 ghost use Rattle.meaning.specs.Limits.{specCount};
-ghost use Rattle.match_row.specs.Pairs.{specOf};
-ghost use Rattle.match_row.specs.Asking.{Ready, Put};
+ghost use Rattle.match_row.specs.Pairs.{matcherSpec};
+ghost use Rattle.match_row.specs.Asking.{MatcherReady, Put};
 ghost use Rattle.search.specs.Hits.{hitStride, fieldStart, fieldSize, underSpec, hitBytes};
 ghost use Rattle.search.specs.Noting.{PlacesIn, TableReady, AllGood};
 use super::found::HIT_STRIDE;
@@ -58,9 +58,9 @@ fn put_hit(
     places: &[u16],
     hit: usize,
 ) -> usize
-    requires { ⌜ Ready (now specs) m × PlacesIn (now items) (now places) (scope .names) × (hit / hitStride ≤ specCount) × (hit % hitStride ≤ scope .names) × (0 < length (underSpec (scope .back) (now items) (now places) hit (specOf (now specs) m)))
-        × (at + length (underSpec (scope .back) (now items) (now places) hit (specOf (now specs) m)) ≤ length (now out)) ⌝ }
-    ensures { λ r. ⌜ Put (now (out .entry)) at (underSpec (scope .back) (now (items .entry)) (now (places .entry)) hit (specOf (now (specs .entry)) m)) (now (out .exit)) r ⌝ }
+    requires { ⌜ MatcherReady (now specs) m × PlacesIn (now items) (now places) (scope .names) × (hit / hitStride ≤ specCount) × (hit % hitStride ≤ scope .names) × (0 < length (underSpec (scope .back) (now items) (now places) hit (matcherSpec (now specs) m)))
+        × (at + length (underSpec (scope .back) (now items) (now places) hit (matcherSpec (now specs) m)) ≤ length (now out)) ⌝ }
+    ensures { λ r. ⌜ Put (now (out .entry)) at (underSpec (scope .back) (now (items .entry)) (now (places .entry)) hit (matcherSpec (now (specs .entry)) m)) (now (out .exit)) r ⌝ }
 {
     let field = hit % HIT_STRIDE;
     let start = start_of(places, field);

@@ -25,7 +25,7 @@ use Rattle.spec_list.specs.declared.SpecStep.the-variants as found
 use Rattle.spec_list.specs.declared.Group.{Group}
 use Rattle.spec_list.specs.declared.record.SpecRecord.{SpecRecord}
 use Rattle.spec_list.specs.Group.{recordMeant, groupMeant, AllWithin, GroupRefused, GroupRead, SpecTaken, SpecTurned, SpecSays}
-use Rattle.spec_list.specs.Table.{specFrom, blank, recordAt}
+use Rattle.spec_list.specs.Table.{specFromRecord, blank, recordAt}
 use Rattle.list.proofs.Records.{records-past, records-no, records-took}
 use Rattle.list.proofs.Refusals.{specs-positive}
 
@@ -42,7 +42,7 @@ after-first : (l : List Spec) (x : Spec) (a : Answer (List Spec)) → readAfter 
 after-first l x (accepted m) = ap (λ (k : List Spec). accepted k) (sym (append-assoc l (x ∷ []) m))
 after-first l x (refused n r) = refl
 
-within-more : (len : ℕ) (l : List SpecRecord) (q : SpecRecord) → AllWithin len l → SidesWithin len (specFrom q) → AllWithin len (l ++ (q ∷ []))
+within-more : (len : ℕ) (l : List SpecRecord) (q : SpecRecord) → AllWithin len l → SidesWithin len (specFromRecord q) → AllWithin len (l ++ (q ∷ []))
 within-more len [] q w h = (h, tt)
 within-more len (p ∷ l) q w h = (w .0, within-more len l q (w .1) h)
 
@@ -75,7 +75,7 @@ module _ (op : ℕ) (s : Text) (t : List SpecRecord) (at j : ℕ) (f : Filling o
     filling-small h = record { src-within = side-wider (length s) specListBytes (r .src) h (told .sides .src-within); dst-within = side-wider (length s) specListBytes (r .dst) h (told .sides .dst-within) }
 
     -- one more spec, as a record of it
-    pub filling-more : (y : SpecRecord) → specFrom y ≡ r → Filling op s (set t j y) (next .at) (j + 1)
+    pub filling-more : (y : SpecRecord) → specFromRecord y ≡ r → Filling op s (set t j y) (next .at) (j + 1)
     filling-more y e =
         let k : j < length t = omega (arith, f .size, told .number) in
         let p : take (j + 1) (set t j y) ≡ take j t ++ (y ∷ []) = rw (add-one j) (take-suc-set t j y k) in
@@ -122,7 +122,7 @@ module _ (op : ℕ) (s : Text) (g : Group) where
 
 -- record i of a table that is lent, as `spec_of` hands it on
 
-pub all-within : (len : ℕ) (l : List SpecRecord) (i : ℕ) → i < length l → AllWithin len l → SidesWithin len (specFrom (recordAt l i))
+pub all-within : (len : ℕ) (l : List SpecRecord) (i : ℕ) → i < length l → AllWithin len l → SidesWithin len (specFromRecord (recordAt l i))
 all-within len [] i h w = absurd (omega arith)
 all-within len (r ∷ l) zero h w = w .0
 all-within len (r ∷ l) (suc i) h w = all-within len l i (omega arith) (w .1)
@@ -136,7 +136,7 @@ module _ (t : List SpecRecord) (n i : ℕ) (r : SpecRecord) (is : r ≡ recordAt
   table-next s = rw is (ap (groupMeant s) (drop-cons (take n t) i blank there))
 
   -- and its sides stand within the list
-  pub table-within : (len : ℕ) → AllWithin len (take n t) → SidesWithin len (specFrom r)
+  pub table-within : (len : ℕ) → AllWithin len (take n t) → SidesWithin len (specFromRecord r)
   table-within len w = rw is (all-within len (take n t) i there w)
 
 -- from the last place on there are none

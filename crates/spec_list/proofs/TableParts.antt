@@ -14,8 +14,8 @@ use denote.Index.{row}
 use denote.Steps.{nothing}
 
 -- how many bytes a record has
-abbrev pub recordBytes : ℕ
-recordBytes = 14
+abbrev pub specRecordBytes : ℕ
+specRecordBytes = 14
 
 module _ (R : RattleType) where
   -- where record n lies, the first at o

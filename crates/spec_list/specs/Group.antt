@@ -19,7 +19,7 @@ use Rattle.spec_list.specs.declared.SpecStep.{SpecStep}
 use Rattle.spec_list.specs.declared.SpecStep.the-variants as found
 use Rattle.spec_list.specs.declared.Group.{Group}
 use Rattle.spec_list.specs.declared.record.SpecRecord.{SpecRecord}
-use Rattle.spec_list.specs.Table.{specFrom}
+use Rattle.spec_list.specs.Table.{specFromRecord}
 
 -- a side of a text that begins at `start` of a list, as a place in the list
 abbrev pub shiftedSide : ℕ → Side → Side
@@ -33,7 +33,7 @@ shifted start r = record { mode = r .mode; src = shiftedSide start (r .src); dst
 
 -- the spec that a record denotes in a list
 abbrev pub recordMeant : Text → SpecRecord → Spec
-recordMeant s q = specMeant s (specFrom q)
+recordMeant s q = specMeant s (specFromRecord q)
 
 -- the specs that records denote
 abbrev pub groupMeant : Text → List SpecRecord → List Spec
@@ -42,7 +42,7 @@ groupMeant s l = map (recordMeant s) l
 -- the sides of each spec stand within so many bytes
 abbrev pub AllWithin : ℕ → List SpecRecord → Type 0
 AllWithin len [] = Unit {0}
-AllWithin len (q ∷ l) = SidesWithin len (specFrom q) × AllWithin len l
+AllWithin len (q ∷ l) = SidesWithin len (specFromRecord q) × AllWithin len l
 
 -- a group that was read: its specs, as records of places in the list
 pub record GroupIs (list : Text) (g : Group) (group : List Spec) : Type 0 where

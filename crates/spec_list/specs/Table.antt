@@ -8,8 +8,8 @@ use Rattle.sides.specs.Numbers.{sideFrom}
 use Rattle.spec_list.specs.declared.record.SpecRecord.{SpecRecord}
 
 -- the spec that a record tells
-abbrev pub specFrom : SpecRecord → RefSpec
-specFrom q = record { mode = q .mode; src = sideFrom (q .«src_kind») (q .«src_at») (q .«src_len»); dst = sideFrom (q .«dst_kind») (q .«dst_at») (q .«dst_len») }
+abbrev pub specFromRecord : SpecRecord → RefSpec
+specFromRecord q = record { mode = q .mode; src = sideFrom (q .«src_kind») (q .«src_at») (q .«src_len»); dst = sideFrom (q .«dst_kind») (q .«dst_at») (q .«dst_len») }
 
 -- what a table is read as outside its bounds
 abbrev pub blank : SpecRecord

@@ -2,7 +2,7 @@
 ghost use mathlib.Core.Path.{_≡_};
 ghost use Rattle.meaning.specs.Limits.{specListBytes};
 ghost use Rattle.parse.specs.Places.{SidesWithin};
-ghost use Rattle.spec_list.specs.Table.{specFrom};
+ghost use Rattle.spec_list.specs.Table.{specFromRecord};
 use parse::types::Mode;
 use parse::types::RefSpec;
 use sides::side_at;
@@ -25,7 +25,7 @@ pub struct SpecRecord {
 // The record of a spec.
 pub(crate) fn record_of(r: RefSpec) -> SpecRecord
     requires { ⌜ SidesWithin specListBytes r ⌝ }
-    ensures { λ q. ⌜ specFrom q ≡ r ⌝ }
+    ensures { λ q. ⌜ specFromRecord q ≡ r ⌝ }
 {
     let mode = r.mode;
     let src = r.src;
@@ -43,7 +43,7 @@ pub(crate) fn record_of(r: RefSpec) -> SpecRecord
 
 // The spec of a record.
 pub fn spec_from(r: SpecRecord) -> RefSpec
-    ensures { λ q. ⌜ q ≡ specFrom r ⌝ }
+    ensures { λ q. ⌜ q ≡ specFromRecord r ⌝ }
 {
     let mode = r.mode;
     let src = side_from(r.src_kind, wide(r.src_at), wide(r.src_len));

@@ -4,6 +4,7 @@ use super::print::say_line;
 use super::print::say_number;
 use super::print::say_reason;
 use super::print::say_text;
+use frames::FRAMES;
 use number::Number;
 use parse::types::Side;
 use refspec::instruction::Instruction;
@@ -183,7 +184,7 @@ fn show_record(list: &[u8], at: usize) -> usize {
 fn show_records(list: &[u8]) {
     let mut at = 0;
     let mut k: usize = 0;
-    while k < 6 {
+    while k < FRAMES {
         at = show_record(list, at);
         k += 1;
     }

@@ -14,7 +14,7 @@ use Rattle.buffer.proofs.Splices.{splice-none}
 use Rattle.text.proofs.Rests.{rest-part}
 use Rattle.text_lists.specs.declared.line.Line.{Line}
 use Rattle.text_lists.specs.declared.line.Line.the-variants.{Nothing, Fetch, Push, Name, Unknown}
-use Rattle.text_lists.specs.Line.{Held, nothing, unknown, fetch, push, name, heldIn, Tells}
+use Rattle.text_lists.specs.Line.{Held, nothing, unknown, fetch, push, name, heldIn, TellsLine}
 use Rattle.text_lists.specs.declared.Lists.{Lists}
 use Rattle.text_lists.specs.Gather.{specReason, nameReason, reasonOf, specsIn, namesIn}
 use Rattle.text_lists.specs.Growing.{Room, stopped, unlessRefused, Grows, SpecAdds, NameAdds, LineAdds}
@@ -61,63 +61,63 @@ stays-new : (limit n : ℕ) (l : List Text) → unlessRefused n l ≡ [] → (co
 stays-new limit n l e count size countAfter sizeAfter d p q h = rw (e, p, q) (stays limit count size d h)
 
 -- a spec, for a reason that was found
-module _ (t : Text) (so : Lists) (d : Text) (n : ℕ) (en : n ≡ specReason (so .specs) (so .«spec_bytes») t) (room : Room specListBytes (so .«spec_bytes») d) where
+module _ (t : Text) (so : Lists) (d : Text) (n : ℕ) (en : n ≡ specReason (so .specs) (so .«specs_size») t) (room : Room specListBytes (so .«specs_size») d) where
   pub spec-refused : (n ≡ 0 → ⊥) → (r : Lists) → r ≡ stopped so n → SpecAdds t so r d d
   spec-refused h r e = rw e (record {
     reason-is = en;
-    grows = stays-new specListBytes n (t ∷ []) (refused-none n (t ∷ []) h) (so .specs) (so .«spec_bytes») (so .specs) (so .«spec_bytes») d refl refl (room .small);
+    grows = stays-new specListBytes n (t ∷ []) (refused-none n (t ∷ []) h) (so .specs) (so .«specs_size») (so .specs) (so .«specs_size») d refl refl (room .small);
     names-stay = refl;
     bytes-stay = refl;
   })
 
   module _ (z : n ≡ 0) where
-    pub spec-room : so .«spec_bytes» + length (textBytes t) ≤ length d
-    spec-room = omega (arith, spec-passes (so .specs) (so .«spec_bytes») t (sym en ∙ z) .fits, room .long)
+    pub spec-room : so .«specs_size» + length (textBytes t) ≤ length d
+    spec-room = omega (arith, spec-passes (so .specs) (so .«specs_size») t (sym en ∙ z) .fits, room .long)
 
     pub spec-counts : Fits w64 (so .specs + 1)
-    spec-counts = omega (arith, spec-passes (so .specs) (so .«spec_bytes») t (sym en ∙ z) .few)
+    spec-counts = omega (arith, spec-passes (so .specs) (so .«specs_size») t (sym en ∙ z) .few)
 
-    pub spec-added : (e : Text) (end : ℕ) → e ≡ splice d (so .«spec_bytes») (textBytes t) → end ≡ so .«spec_bytes» + length (textBytes t) → SpecAdds t so (record { reason = 0; specs = so .specs + 1; «spec_bytes» = end; names = so .names; «name_bytes» = so .«name_bytes» }) d e
+    pub spec-added : (e : Text) (end : ℕ) → e ≡ splice d (so .«specs_size») (textBytes t) → end ≡ so .«specs_size» + length (textBytes t) → SpecAdds t so (record { reason = 0; specs = so .specs + 1; «specs_size» = end; names = so .names; «names_size» = so .«names_size» }) d e
     spec-added e end p q = record {
       reason-is = sym z ∙ en;
-      grows = more specListBytes t (so .specs) (so .«spec_bytes») d e end (spec-passes (so .specs) (so .«spec_bytes») t (sym en ∙ z) .fits) p q;
+      grows = more specListBytes t (so .specs) (so .«specs_size») d e end (spec-passes (so .specs) (so .«specs_size») t (sym en ∙ z) .fits) p q;
       names-stay = refl;
       bytes-stay = refl;
     }
 
 -- a name, for a reason that was found
-module _ (t : Text) (so : Lists) (d : Text) (n : ℕ) (en : n ≡ nameReason (so .names) (so .«name_bytes») t) (room : Room itemListBytes (so .«name_bytes») d) where
+module _ (t : Text) (so : Lists) (d : Text) (n : ℕ) (en : n ≡ nameReason (so .names) (so .«names_size») t) (room : Room itemListBytes (so .«names_size») d) where
   pub name-refused : (n ≡ 0 → ⊥) → (r : Lists) → r ≡ stopped so n → NameAdds t so r d d
   name-refused h r e = rw e (record {
     reason-is = en;
-    grows = stays-new itemListBytes n (t ∷ []) (refused-none n (t ∷ []) h) (so .names) (so .«name_bytes») (so .names) (so .«name_bytes») d refl refl (room .small);
+    grows = stays-new itemListBytes n (t ∷ []) (refused-none n (t ∷ []) h) (so .names) (so .«names_size») (so .names) (so .«names_size») d refl refl (room .small);
     specs-stay = refl;
     bytes-stay = refl;
   })
 
   module _ (z : n ≡ 0) where
-    pub name-room : so .«name_bytes» + length (textBytes t) ≤ length d
-    name-room = omega (arith, name-passes (so .names) (so .«name_bytes») t (sym en ∙ z) .fits, room .long)
+    pub name-room : so .«names_size» + length (textBytes t) ≤ length d
+    name-room = omega (arith, name-passes (so .names) (so .«names_size») t (sym en ∙ z) .fits, room .long)
 
     pub name-counts : Fits w64 (so .names + 1)
-    name-counts = omega (arith, name-passes (so .names) (so .«name_bytes») t (sym en ∙ z) .few)
+    name-counts = omega (arith, name-passes (so .names) (so .«names_size») t (sym en ∙ z) .few)
 
-    pub name-added : (e : Text) (end : ℕ) → e ≡ splice d (so .«name_bytes») (textBytes t) → end ≡ so .«name_bytes» + length (textBytes t) → NameAdds t so (record { reason = 0; specs = so .specs; «spec_bytes» = so .«spec_bytes»; names = so .names + 1; «name_bytes» = end }) d e
+    pub name-added : (e : Text) (end : ℕ) → e ≡ splice d (so .«names_size») (textBytes t) → end ≡ so .«names_size» + length (textBytes t) → NameAdds t so (record { reason = 0; specs = so .specs; «specs_size» = so .«specs_size»; names = so .names + 1; «names_size» = end }) d e
     name-added e end p q = record {
       reason-is = sym z ∙ en;
-      grows = more itemListBytes t (so .names) (so .«name_bytes») d e end (name-passes (so .names) (so .«name_bytes») t (sym en ∙ z) .fits) p q;
+      grows = more itemListBytes t (so .names) (so .«names_size») d e end (name-passes (so .names) (so .«names_size») t (sym en ∙ z) .fits) p q;
       specs-stay = refl;
       bytes-stay = refl;
     }
 
 -- what a line holds, from the answer about it
-module _ (line : Text) (a : Line) (tells : Tells line a) (so : Lists) (d₁ d₂ : Text) (room₁ : Room specListBytes (so .«spec_bytes») d₁) (room₂ : Room itemListBytes (so .«name_bytes») d₂) where
+module _ (line : Text) (a : Line) (tells : TellsLine line a) (so : Lists) (d₁ d₂ : Text) (room₁ : Room specListBytes (so .«specs_size») d₁) (room₂ : Room itemListBytes (so .«names_size») d₂) where
   -- a line that adds nothing, for a reason or for none
-  stays-both : (h : Held) (n : ℕ) → specsIn h ≡ [] → namesIn h ≡ [] → n ≡ reasonOf (so .specs) (so .«spec_bytes») (so .names) (so .«name_bytes») h → LineAdds h so (stopped so n) d₁ d₂ d₁ d₂
+  stays-both : (h : Held) (n : ℕ) → specsIn h ≡ [] → namesIn h ≡ [] → n ≡ reasonOf (so .specs) (so .«specs_size») (so .names) (so .«names_size») h → LineAdds h so (stopped so n) d₁ d₂ d₁ d₂
   stays-both h n p q e = record {
     reason-is = e;
-    specs-grow = rw p (stays-new specListBytes n [] (none-new n) (so .specs) (so .«spec_bytes») (so .specs) (so .«spec_bytes») d₁ refl refl (room₁ .small));
-    names-grow = rw q (stays-new itemListBytes n [] (none-new n) (so .names) (so .«name_bytes») (so .names) (so .«name_bytes») d₂ refl refl (room₂ .small));
+    specs-grow = rw p (stays-new specListBytes n [] (none-new n) (so .specs) (so .«specs_size») (so .specs) (so .«specs_size») d₁ refl refl (room₁ .small));
+    names-grow = rw q (stays-new itemListBytes n [] (none-new n) (so .names) (so .«names_size») (so .names) (so .«names_size») d₂ refl refl (room₂ .small));
   }
 
   module _ (r : Lists) where
@@ -138,7 +138,7 @@ module _ (line : Text) (a : Line) (tells : Tells line a) (so : Lists) (d₁ d₂
           rw (← m) (record {
             reason-is = x .reason-is;
             specs-grow = x .grows;
-            names-grow = stays-new itemListBytes (r .reason) [] (none-new (r .reason)) (so .names) (so .«name_bytes») (r .names) (r .«name_bytes») d₂ (x .names-stay) (x .bytes-stay) (room₂ .small);
+            names-grow = stays-new itemListBytes (r .reason) [] (none-new (r .reason)) (so .names) (so .«names_size») (r .names) (r .«names_size») d₂ (x .names-stay) (x .bytes-stay) (room₂ .small);
           })
 
       pub line-name : a ≡ Name at → (e : Text) → NameAdds (take (length line - at) (drop at line)) so r d₂ e → LineAdds (heldIn line) so r d₁ d₂ d₁ e
@@ -147,7 +147,7 @@ module _ (line : Text) (a : Line) (tells : Tells line a) (so : Lists) (d₁ d₂
           let x : NameAdds (drop at line) so r d₂ e = rw (rest-part line at) at adds in
           rw (← m) (record {
             reason-is = x .reason-is;
-            specs-grow = stays-new specListBytes (r .reason) [] (none-new (r .reason)) (so .specs) (so .«spec_bytes») (r .specs) (r .«spec_bytes») d₁ (x .specs-stay) (x .bytes-stay) (room₁ .small);
+            specs-grow = stays-new specListBytes (r .reason) [] (none-new (r .reason)) (so .specs) (so .«specs_size») (r .specs) (r .«specs_size») d₁ (x .specs-stay) (x .bytes-stay) (room₁ .small);
             names-grow = x .grows;
           })
 

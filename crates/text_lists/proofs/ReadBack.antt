@@ -20,7 +20,7 @@ use Rattle.promises.proofs.Reading.{records-append}
 use Rattle.promises.proofs.Members.{specs-written, items-written}
 use Rattle.text_lists.specs.Line.{Held, nothing, unknown, fetch, push, name, heldIn}
 use Rattle.text_lists.specs.Gather.{linesOf, reasonOf, specsIn, namesIn, unlessStopped, gather, gathered}
-use Rattle.text_lists.specs.Facts.{listing, ReadsBack}
+use Rattle.text_lists.specs.Facts.{printedListing, ReadsBack}
 use Rattle.text_lists.proofs.Reasons.{spec-passes, name-passes}
 
 -- lists within the limits of document 01, of texts that pass their questions
@@ -116,16 +116,16 @@ specs-back l p =
 
 -- and give the listing, or 17
 module _ (s : Text) (es : readSpecs 0 (recordBytes (gathered s .specs)) ≡ accepted (map (specOf 0) (gathered s .specs))) (en : readItems (recordBytes (gathered s .names)) ≡ accepted (gathered s .names)) where
-  gives-listing : printed (recordBytes (gathered s .specs)) (recordBytes (gathered s .names)) ≡ withinLimit (listing s)
-  unfolding printed listing
+  gives-listing : printed (recordBytes (gathered s .specs)) (recordBytes (gathered s .names)) ≡ withinLimit (printedListing s)
+  unfolding printed printedListing
   gives-listing = rw (es, en)
 
   -- a refusal is told from a listing by its first word
-  limit-marked : begins (bytes "refused ") (output (withinLimit (listing s))) ≡ not (leb (length (listing s)) programBytes)
-  unfolding listing header
-  limit-marked = go (leb (length (listing s)) programBytes)
+  limit-marked : begins (bytes "refused ") (output (withinLimit (printedListing s))) ≡ not (leb (length (printedListing s)) programBytes)
+  unfolding printedListing header
+  limit-marked = go (leb (length (printedListing s)) programBytes)
     where
-      go : (b : Bool) → begins (bytes "refused ") (output (cond b (accepted (listing s)) (refused 17 none))) ≡ not b
+      go : (b : Bool) → begins (bytes "refused ") (output (cond b (accepted (printedListing s)) (refused 17 none))) ≡ not b
       go true = refl
       go false = refl
 

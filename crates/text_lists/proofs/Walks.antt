@@ -64,11 +64,11 @@ pub record Walked (input d₁ d₂ : Text) (at line : ℕ) (so : Lists) (o₁ o�
   pub line-small : line ≤ at + 1
   pub specs-kept : length o₁ ≡ length d₁
   pub names-kept : length o₂ ≡ length d₂
-  pub specs : Holding specListBytes d₁ o₁ (so .specs) (so .«spec_bytes»)
-  pub names : Holding itemListBytes d₂ o₂ (so .names) (so .«name_bytes»)
+  pub specs : Holding specListBytes d₁ o₁ (so .specs) (so .«specs_size»)
+  pub names : Holding itemListBytes d₂ o₂ (so .names) (so .«names_size»)
   pub left : gather line (specs .texts) (names .texts) (linesOf (drop at input)) ≡ gathered input
 
-pub walked-starts : (input d₁ d₂ : Text) → Walked input d₁ d₂ 0 1 (record { reason = 0; specs = 0; «spec_bytes» = 0; names = 0; «name_bytes» = 0 }) d₁ d₂
+pub walked-starts : (input d₁ d₂ : Text) → Walked input d₁ d₂ 0 1 (record { reason = 0; specs = 0; «specs_size» = 0; names = 0; «names_size» = 0 }) d₁ d₂
 unfolding gathered holding-none
 walked-starts input d₁ d₂ = record { at-within = omega arith; line-small = omega arith; specs-kept = refl; names-kept = refl; specs = holding-none specListBytes d₁; names = holding-none itemListBytes d₂; left = refl }
 
@@ -89,14 +89,14 @@ turn-of : (k : ℕ) (specs names : List Text) (l : Text) (lines : List Text) (a 
 turn-of k specs names l lines a b c d n ea eb ec ed e = rw (e, ea, eb, ec, ed)
 
 module _ (input d₁ d₂ : Text) (long₁ : specListBytes ≤ length d₁) (long₂ : itemListBytes ≤ length d₂) (at line : ℕ) (so : Lists) (o₁ o₂ : Text) (w : Walked input d₁ d₂ at line so o₁ o₂) where
-  pub walked-specs : Room specListBytes (so .«spec_bytes») o₁
-  walked-specs = holding-room specListBytes d₁ o₁ (so .specs) (so .«spec_bytes») long₁ (w .specs)
+  pub walked-specs : Room specListBytes (so .«specs_size») o₁
+  walked-specs = holding-room specListBytes d₁ o₁ (so .specs) (so .«specs_size») long₁ (w .specs)
 
-  pub walked-names : Room itemListBytes (so .«name_bytes») o₂
-  walked-names = holding-room itemListBytes d₂ o₂ (so .names) (so .«name_bytes») long₂ (w .names)
+  pub walked-names : Room itemListBytes (so .«names_size») o₂
+  walked-names = holding-room itemListBytes d₂ o₂ (so .names) (so .«names_size») long₂ (w .names)
 
   -- no line is left
-  pub walked-whole : length input ≤ at → Gathers (gathered input) d₁ d₂ o₁ o₂ (record { line = 0; reason = 0; specs = so .«spec_bytes»; items = so .«name_bytes» })
+  pub walked-whole : length input ≤ at → Gathers (gathered input) d₁ d₂ o₁ o₂ (record { line = 0; reason = 0; specs = so .«specs_size»; items = so .«names_size» })
   walked-whole h =
       let e : record { line = 0; reason = 0; specs = w .specs .texts; names = w .names .texts } ≡ gathered input = rw (line-none input at h) at (w .left) in
       rw (← e) (record {
@@ -118,12 +118,12 @@ module _ (input d₁ d₂ : Text) (long₁ : specListBytes ≤ length d₁) (lon
     -- the whole, by this line's reason
     turn : unlessStopped (r .reason) line (w .specs .texts) (w .names .texts) (gather (line + 1) (w .specs .texts ++ specsIn held) (w .names .texts ++ namesIn held) (linesOf (drop (end + 1) input))) ≡ gathered input
     turn =
-        turn-of line (w .specs .texts) (w .names .texts) (take (end - at) (drop at input)) (linesOf (drop (end + 1) input)) (so .specs) (so .«spec_bytes») (so .names) (so .«name_bytes») (r .reason) (w .specs .count-is) (w .specs .size-is) (w .names .count-is) (w .names .size-is) (adds .reason-is)
+        turn-of line (w .specs .texts) (w .names .texts) (take (end - at) (drop at input)) (linesOf (drop (end + 1) input)) (so .specs) (so .«specs_size») (so .names) (so .«names_size») (r .reason) (w .specs .count-is) (w .specs .size-is) (w .names .count-is) (w .names .size-is) (adds .reason-is)
         ∙ ap (gather line (w .specs .texts) (w .names .texts)) (sym (line-next input at end h e))
         ∙ w .left
 
     -- it is refused
-    pub walked-stop : (r .reason ≡ 0 → ⊥) → Gathers (gathered input) d₁ d₂ p₁ p₂ (record { line = line; reason = r .reason; specs = r .«spec_bytes»; items = r .«name_bytes» })
+    pub walked-stop : (r .reason ≡ 0 → ⊥) → Gathers (gathered input) d₁ d₂ p₁ p₂ (record { line = line; reason = r .reason; specs = r .«specs_size»; items = r .«names_size» })
     walked-stop z =
         let g : record { line = line; reason = r .reason; specs = w .specs .texts; names = w .names .texts } ≡ gathered input = sym (stops (r .reason) line (w .specs .texts) (w .names .texts) _ z) ∙ turn in
         let s = refused-none (r .reason) (specsIn held) z in
@@ -131,29 +131,29 @@ module _ (input d₁ d₂ : Text) (long₁ : specListBytes ≤ length d₁) (lon
         rw (← g) (record {
           line-is = refl;
           reason-is = refl;
-          specs-size = stays-size specListBytes d₁ o₁ (so .specs) (so .«spec_bytes») (w .specs) (unlessRefused (r .reason) (specsIn held)) s (r .specs) (r .«spec_bytes») p₁ (adds .specs-grow);
-          items-size = stays-size itemListBytes d₂ o₂ (so .names) (so .«name_bytes») (w .names) (unlessRefused (r .reason) (namesIn held)) n (r .names) (r .«name_bytes») p₂ (adds .names-grow);
-          specs-put = stays-put specListBytes d₁ o₁ (so .specs) (so .«spec_bytes») (w .specs) (unlessRefused (r .reason) (specsIn held)) s (r .specs) (r .«spec_bytes») p₁ (adds .specs-grow);
-          items-put = stays-put itemListBytes d₂ o₂ (so .names) (so .«name_bytes») (w .names) (unlessRefused (r .reason) (namesIn held)) n (r .names) (r .«name_bytes») p₂ (adds .names-grow);
+          specs-size = stays-size specListBytes d₁ o₁ (so .specs) (so .«specs_size») (w .specs) (unlessRefused (r .reason) (specsIn held)) s (r .specs) (r .«specs_size») p₁ (adds .specs-grow);
+          items-size = stays-size itemListBytes d₂ o₂ (so .names) (so .«names_size») (w .names) (unlessRefused (r .reason) (namesIn held)) n (r .names) (r .«names_size») p₂ (adds .names-grow);
+          specs-put = stays-put specListBytes d₁ o₁ (so .specs) (so .«specs_size») (w .specs) (unlessRefused (r .reason) (specsIn held)) s (r .specs) (r .«specs_size») p₁ (adds .specs-grow);
+          items-put = stays-put itemListBytes d₂ o₂ (so .names) (so .«names_size») (w .names) (unlessRefused (r .reason) (namesIn held)) n (r .names) (r .«names_size») p₂ (adds .names-grow);
           specs-small = adds .specs-grow .small;
           items-small = adds .names-grow .small;
         })
 
     -- it is not
     module _ (z : r .reason ≡ 0) where
-      specs-more : Holding specListBytes d₁ p₁ (r .specs) (r .«spec_bytes»)
-      specs-more = holding-more specListBytes d₁ o₁ (so .specs) (so .«spec_bytes») long₁ (w .specs) (specsIn held) (r .specs) (r .«spec_bytes») p₁ (all-new specListBytes (r .reason) (specsIn held) (so .specs) (so .«spec_bytes») (r .specs) (r .«spec_bytes») o₁ p₁ z (adds .specs-grow))
+      specs-more : Holding specListBytes d₁ p₁ (r .specs) (r .«specs_size»)
+      specs-more = holding-more specListBytes d₁ o₁ (so .specs) (so .«specs_size») long₁ (w .specs) (specsIn held) (r .specs) (r .«specs_size») p₁ (all-new specListBytes (r .reason) (specsIn held) (so .specs) (so .«specs_size») (r .specs) (r .«specs_size») o₁ p₁ z (adds .specs-grow))
 
-      names-more : Holding itemListBytes d₂ p₂ (r .names) (r .«name_bytes»)
-      names-more = holding-more itemListBytes d₂ o₂ (so .names) (so .«name_bytes») long₂ (w .names) (namesIn held) (r .names) (r .«name_bytes») p₂ (all-new itemListBytes (r .reason) (namesIn held) (so .names) (so .«name_bytes») (r .names) (r .«name_bytes») o₂ p₂ z (adds .names-grow))
+      names-more : Holding itemListBytes d₂ p₂ (r .names) (r .«names_size»)
+      names-more = holding-more itemListBytes d₂ o₂ (so .names) (so .«names_size») long₂ (w .names) (namesIn held) (r .names) (r .«names_size») p₂ (all-new itemListBytes (r .reason) (namesIn held) (so .names) (so .«names_size») (r .names) (r .«names_size») o₂ p₂ z (adds .names-grow))
 
       pub walked-more : Walked input d₁ d₂ (end + 1) (line + 1) r p₁ p₂
       unfolding specs-more names-more holding-more
       walked-more = record {
         at-within = omega arith;
         line-small = omega (arith, w .line-small);
-        specs-kept = holding-kept specListBytes d₁ p₁ (r .specs) (r .«spec_bytes») long₁ specs-more;
-        names-kept = holding-kept itemListBytes d₂ p₂ (r .names) (r .«name_bytes») long₂ names-more;
+        specs-kept = holding-kept specListBytes d₁ p₁ (r .specs) (r .«specs_size») long₁ specs-more;
+        names-kept = holding-kept itemListBytes d₂ p₂ (r .names) (r .«names_size») long₂ names-more;
         specs = specs-more;
         names = names-more;
         left = goes-on (r .reason) line (w .specs .texts) (w .names .texts) (gather (line + 1) (w .specs .texts ++ specsIn held) (w .names .texts ++ namesIn held) (linesOf (drop (end + 1) input))) (gathered input) z turn;

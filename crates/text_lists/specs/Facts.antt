@@ -14,12 +14,12 @@ use Rattle.meaning.specs.Deliveries.{rowLine, header, withinLimit, printed, out
 use Rattle.text_lists.specs.Gather.{gathered}
 
 -- the listing of the specs and the names of the lines
-unfoldable pub listing : Text → Text
-listing s = header ++ each (forwardRows (map (specOf 0) (gathered s .specs)) (gathered s .names)) rowLine
+unfoldable pub printedListing : Text → Text
+printedListing s = header ++ each (forwardRows (map (specOf 0) (gathered s .specs)) (gathered s .names)) rowLine
 
 -- both lists are accepted; for them the listing is printed, or 17 where it is too long, and only then a text that begins `refused `
 pub record ReadsBack (s : Text) : Type 0 where
   pub specs-read : readSpecs 0 (recordBytes (gathered s .specs)) ≡ accepted (map (specOf 0) (gathered s .specs))
   pub names-read : readItems (recordBytes (gathered s .names)) ≡ accepted (gathered s .names)
-  pub prints : printed (recordBytes (gathered s .specs)) (recordBytes (gathered s .names)) ≡ withinLimit (listing s)
-  pub long-marked : begins (bytes "refused ") (output (printed (recordBytes (gathered s .specs)) (recordBytes (gathered s .names)))) ≡ not (leb (length (listing s)) programBytes)
+  pub prints : printed (recordBytes (gathered s .specs)) (recordBytes (gathered s .names)) ≡ withinLimit (printedListing s)
+  pub long-marked : begins (bytes "refused ") (output (printed (recordBytes (gathered s .specs)) (recordBytes (gathered s .names)))) ≡ not (leb (length (printedListing s)) programBytes)

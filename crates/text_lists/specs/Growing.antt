@@ -19,7 +19,7 @@ pub record Room (limit size : ℕ) (buffer : Text) : Type 0 where
 
 -- nothing is added, for a reason or for none
 abbrev pub stopped : Lists → ℕ → Lists
-stopped so n = record { reason = n; specs = so .specs; «spec_bytes» = so .«spec_bytes»; names = so .names; «name_bytes» = so .«name_bytes» }
+stopped so n = record { reason = n; specs = so .specs; «specs_size» = so .«specs_size»; names = so .names; «names_size» = so .«names_size» }
 
 -- what is added unless there is a reason not to
 abbrev pub unlessRefused : ℕ → List Text → List Text
@@ -35,23 +35,23 @@ pub record Grows (limit : ℕ) (new : List Text) (count size : ℕ) (entry : Tex
 
 -- a spec was added or refused, and the names stay
 pub record SpecAdds (t : Text) (so after : Lists) (entry exit : Text) : Type 0 where
-  pub reason-is : after .reason ≡ specReason (so .specs) (so .«spec_bytes») t
-  pub grows : Grows specListBytes (unlessRefused (after .reason) (t ∷ [])) (so .specs) (so .«spec_bytes») entry (after .specs) (after .«spec_bytes») exit
+  pub reason-is : after .reason ≡ specReason (so .specs) (so .«specs_size») t
+  pub grows : Grows specListBytes (unlessRefused (after .reason) (t ∷ [])) (so .specs) (so .«specs_size») entry (after .specs) (after .«specs_size») exit
   pub names-stay : after .names ≡ so .names
-  pub bytes-stay : after .«name_bytes» ≡ so .«name_bytes»
+  pub bytes-stay : after .«names_size» ≡ so .«names_size»
 
 -- a name was added or refused, and the specs stay
 pub record NameAdds (t : Text) (so after : Lists) (entry exit : Text) : Type 0 where
-  pub reason-is : after .reason ≡ nameReason (so .names) (so .«name_bytes») t
-  pub grows : Grows itemListBytes (unlessRefused (after .reason) (t ∷ [])) (so .names) (so .«name_bytes») entry (after .names) (after .«name_bytes») exit
+  pub reason-is : after .reason ≡ nameReason (so .names) (so .«names_size») t
+  pub grows : Grows itemListBytes (unlessRefused (after .reason) (t ∷ [])) (so .names) (so .«names_size») entry (after .names) (after .«names_size») exit
   pub specs-stay : after .specs ≡ so .specs
-  pub bytes-stay : after .«spec_bytes» ≡ so .«spec_bytes»
+  pub bytes-stay : after .«specs_size» ≡ so .«specs_size»
 
 -- what a line holds was added or refused
 pub record LineAdds (h : Held) (so after : Lists) (specs items specsAfter itemsAfter : Text) : Type 0 where
-  pub reason-is : after .reason ≡ reasonOf (so .specs) (so .«spec_bytes») (so .names) (so .«name_bytes») h
-  pub specs-grow : Grows specListBytes (unlessRefused (after .reason) (specsIn h)) (so .specs) (so .«spec_bytes») specs (after .specs) (after .«spec_bytes») specsAfter
-  pub names-grow : Grows itemListBytes (unlessRefused (after .reason) (namesIn h)) (so .names) (so .«name_bytes») items (after .names) (after .«name_bytes») itemsAfter
+  pub reason-is : after .reason ≡ reasonOf (so .specs) (so .«specs_size») (so .names) (so .«names_size») h
+  pub specs-grow : Grows specListBytes (unlessRefused (after .reason) (specsIn h)) (so .specs) (so .«specs_size») specs (after .specs) (after .«specs_size») specsAfter
+  pub names-grow : Grows itemListBytes (unlessRefused (after .reason) (namesIn h)) (so .names) (so .«names_size») items (after .names) (after .«names_size») itemsAfter
 
 -- the numbers say what was gathered, and the buffers hold the two lists at their start, with nothing else written
 pub record Gathers (g : Gathering) (specs items specsAfter itemsAfter : Text) (r : Gathered) : Type 0 where

@@ -42,6 +42,6 @@ LineWithin len (Name at) = at ≤ len
 LineWithin len Unknown = Unit {0}
 
 -- an answer about a line: what it holds, from a place of it on
-pub record Tells (t : Text) (r : Line) : Type 0 where
+pub record TellsLine (t : Text) (r : Line) : Type 0 where
   pub means : lineMeant t r ≡ heldIn t
   pub within : LineWithin (length t) r

@@ -39,9 +39,9 @@ pub struct Gathered {
 struct Lists {
     reason: u64,
     specs: usize,
-    spec_bytes: usize,
+    specs_size: usize,
     names: usize,
-    name_bytes: usize,
+    names_size: usize,
 }
 
 // 12 where a list of `size` bytes, of which it may have `limit`, has no room for a text.
@@ -101,53 +101,53 @@ fn stopped(so: Lists, reason: u64) -> Lists
     Lists {
         reason,
         specs: so.specs,
-        spec_bytes: so.spec_bytes,
+        specs_size: so.specs_size,
         names: so.names,
-        name_bytes: so.name_bytes,
+        names_size: so.names_size,
     }
 }
 
 // Adds a spec, unless it is refused.
 fn add_spec(t: &[u8], specs: &mut [u8], so: Lists) -> Lists
-    requires { ⌜ (length (now t) ≤ programBytes) × Room specListBytes (so .«spec_bytes») (now specs) ⌝ }
+    requires { ⌜ (length (now t) ≤ programBytes) × Room specListBytes (so .«specs_size») (now specs) ⌝ }
     ensures { λ r. ⌜ SpecAdds (now (t .entry)) so r (now (specs .entry)) (now (specs .exit)) ⌝ }
 {
-    let reason = spec_reason(so.specs, so.spec_bytes, t);
+    let reason = spec_reason(so.specs, so.specs_size, t);
     if reason != 0 {
         return stopped(so, reason);
     }
-    let end = put_text(specs, so.spec_bytes, t);
+    let end = put_text(specs, so.specs_size, t);
     Lists {
         reason: 0,
         specs: so.specs + 1,
-        spec_bytes: end,
+        specs_size: end,
         names: so.names,
-        name_bytes: so.name_bytes,
+        names_size: so.names_size,
     }
 }
 
 // Adds a name, unless it is refused.
 fn add_name(t: &[u8], items: &mut [u8], so: Lists) -> Lists
-    requires { ⌜ (length (now t) ≤ programBytes) × Room itemListBytes (so .«name_bytes») (now items) ⌝ }
+    requires { ⌜ (length (now t) ≤ programBytes) × Room itemListBytes (so .«names_size») (now items) ⌝ }
     ensures { λ r. ⌜ NameAdds (now (t .entry)) so r (now (items .entry)) (now (items .exit)) ⌝ }
 {
-    let reason = name_reason(so.names, so.name_bytes, t);
+    let reason = name_reason(so.names, so.names_size, t);
     if reason != 0 {
         return stopped(so, reason);
     }
-    let end = put_text(items, so.name_bytes, t);
+    let end = put_text(items, so.names_size, t);
     Lists {
         reason: 0,
         specs: so.specs,
-        spec_bytes: so.spec_bytes,
+        specs_size: so.specs_size,
         names: so.names + 1,
-        name_bytes: end,
+        names_size: end,
     }
 }
 
 // Adds what a line holds, unless it is refused.
 fn add_line(line: &[u8], specs: &mut [u8], items: &mut [u8], so: Lists) -> Lists
-    requires { ⌜ (length (now line) ≤ programBytes) × Room specListBytes (so .«spec_bytes») (now specs) × Room itemListBytes (so .«name_bytes») (now items) ⌝ }
+    requires { ⌜ (length (now line) ≤ programBytes) × Room specListBytes (so .«specs_size») (now specs) × Room itemListBytes (so .«names_size») (now items) ⌝ }
     ensures { λ r. ⌜ LineAdds (heldIn (now (line .entry))) so r (now (specs .entry)) (now (items .entry)) (now (specs .exit)) (now (items .exit)) ⌝ }
 {
     match classify(line) {
@@ -169,9 +169,9 @@ pub fn gather(input: &[u8], specs: &mut [u8], items: &mut [u8]) -> Gathered
     let mut so = Lists {
         reason: 0,
         specs: 0,
-        spec_bytes: 0,
+        specs_size: 0,
         names: 0,
-        name_bytes: 0,
+        names_size: 0,
     };
     while at < input.len() {
         let end = text::find_from(input, at, b'\n');
@@ -180,8 +180,8 @@ pub fn gather(input: &[u8], specs: &mut [u8], items: &mut [u8]) -> Gathered
             return Gathered {
                 line,
                 reason: so.reason,
-                specs: so.spec_bytes,
-                items: so.name_bytes,
+                specs: so.specs_size,
+                items: so.names_size,
             };
         }
         at = end + 1;
@@ -190,7 +190,7 @@ pub fn gather(input: &[u8], specs: &mut [u8], items: &mut [u8]) -> Gathered
     Gathered {
         line: 0,
         reason: 0,
-        specs: so.spec_bytes,
-        items: so.name_bytes,
+        specs: so.specs_size,
+        items: so.names_size,
     }
 }

@@ -1,7 +1,7 @@
 // A line of text as a person writes it: nothing, a spec for fetch or push, a name, or none of these.
 ghost use mathlib.Core.Path.{_≡_};
 ghost use Rattle.meaning.specs.Bytes.{every};
-ghost use Rattle.text_lists.specs.Line.{blankByte, Tells};
+ghost use Rattle.text_lists.specs.Line.{blankByte, TellsLine};
 
 // What a line holds; a spec or a name is the rest of its line from a place on.
 pub enum Line {
@@ -38,7 +38,7 @@ fn all_blank(line: &[u8]) -> bool
 
 // What a line holds.
 pub fn classify(line: &[u8]) -> Line
-    ensures { λ r. ⌜ Tells (now (line .entry)) r ⌝ }
+    ensures { λ r. ⌜ TellsLine (now (line .entry)) r ⌝ }
 {
     if all_blank(line) {
         return Line::Nothing;

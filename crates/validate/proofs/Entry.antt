@@ -18,10 +18,11 @@ use Rattle.buffer.proofs.Splices.{splice-start}
 use Rattle.list.specs.declared.items.Checked.{Checked}
 use Rattle.list.specs.Checked.{checked}
 use Rattle.list.proofs.Told.{Passed, specs-passed, specs-failed, rows-passed, rows-failed}
-use Rattle.conflicts.specs.Listed.{rowsIn, RowsRead, conflictsBytes, putIfRoom}
+use Rattle.row_list.specs.Lists.{rowsIn, RowsRead}
+use Rattle.conflicts.specs.ConflictBytes.{conflictsBytes, putIfRoom}
 use Rattle.conflicts.proofs.Wholes.{no-bytes, none-put, short-left, whole-put, bytes-exactly}
 use Rattle.validate.specs.declared.Validation.{Validation}
-use Rattle.validate.specs.Answers.{refusedWith, shortOf}
+use Rattle.validate.specs.Answers.{validationRefused, shortOf}
 
 -- rows that were judged by the size of their conflicts
 module _ (rows : List Row) (size : ℕ) (es : size ≡ length (conflictsBytes rows)) where
@@ -87,7 +88,7 @@ unfolding validated verdictOn
 both-read op specs rows group list e f = rw (e, f)
 
 module _ (op : ℕ) (specs rows d f : Text) (g : Checked) (eg : g ≡ checked (readSpecs op specs)) where
-  pub specs-refused : (g .refusal ≡ 0 → ⊥) → (w : Validation) → w ≡ refusedWith (g .refusal) (g .«record») → MeetsTwo (validated op specs rows) d f d f (w .refusal) (w .«record») (w .conflicts) (w .length) (w .«fixes_length») (w .buffer)
+  pub specs-refused : (g .refusal ≡ 0 → ⊥) → (w : Validation) → w ≡ validationRefused (g .refusal) (g .«record») → MeetsTwo (validated op specs rows) d f d f (w .refusal) (w .«record») (w .conflicts) (w .length) (w .«fixes_length») (w .buffer)
   specs-refused z w e =
       let q = specs-failed op specs g eg z in
       rw e (meets-two-refused (validated op specs rows) d f d f (g .refusal) (q .carried) (g .refusal) (g .«record») 0 0 0 0 (specs-turned op specs rows (g .refusal) (q .carried) (q .answer)) refl refl refl (q .number) refl refl refl refl)
@@ -96,7 +97,7 @@ module _ (op : ℕ) (specs rows d f : Text) (g : Checked) (eg : g ≡ checked (r
     specs-read : Passed (readSpecs op specs) (g .count)
     specs-read = specs-passed op specs g eg zg
 
-    pub rows-refused : (c .refusal ≡ 0 → ⊥) → (w : Validation) → w ≡ refusedWith (c .refusal) (c .«record») → MeetsTwo (validated op specs rows) d f d f (w .refusal) (w .«record») (w .conflicts) (w .length) (w .«fixes_length») (w .buffer)
+    pub rows-refused : (c .refusal ≡ 0 → ⊥) → (w : Validation) → w ≡ validationRefused (c .refusal) (c .«record») → MeetsTwo (validated op specs rows) d f d f (w .refusal) (w .«record») (w .conflicts) (w .length) (w .«fixes_length») (w .buffer)
     rows-refused z w e =
         let q = rows-failed (g .count) rows c ec z in
         let a : readRows (length (specs-read .members)) rows ≡ refused (c .refusal) (q .carried) = rw (← specs-read .counted) (q .answer) in

@@ -9,8 +9,8 @@ ghost use Rattle.meaning.specs.Spec.{accepted};
 ghost use Rattle.meaning.specs.Validation.{conflicts, verdict, isKept, fixOf, fixBytes};
 ghost use Rattle.meaning.specs.Entries.{verdictBytes, validated};
 ghost use Rattle.meaning.specs.Buffers.{MeetsTwo};
-ghost use Rattle.conflicts.specs.Listed.{rowsIn, RowsRead};
-ghost use Rattle.validate.specs.Answers.{refusedWith, shortOf};
+ghost use Rattle.row_list.specs.Lists.{rowsIn, RowsRead};
+ghost use Rattle.validate.specs.Answers.{validationRefused, shortOf};
 use conflicts::put_conflicts;
 use kept_rows::measure;
 use kept_rows::put_rows;
@@ -32,7 +32,7 @@ pub struct Validation {
 
 // A call that is refused for what it was lent.
 fn refused(refusal: u64, record: u64) -> Validation
-    ensures { λ w. ⌜ w ≡ refusedWith refusal «record» ⌝ }
+    ensures { λ w. ⌜ w ≡ validationRefused refusal «record» ⌝ }
 {
     Validation {
         refusal,

@@ -5,8 +5,8 @@ ghost use Rattle.meaning.specs.Buffers.{MeetsOne, MeetsTwo};
 ghost use Rattle.meaning.specs.Entries.{toBstring, expanded, matchLhs, matchRhs, validated};
 ghost use Rattle.meaning.specs.View.{sourceView};
 ghost use Rattle.parse.specs.Places.{parsed};
-ghost use Rattle.refspec.specs.Instructions.{instructed};
-ghost use Rattle.refspec.specs.Prefixes.{prefixed};
+ghost use Rattle.refspec.specs.Instructions.{instructedPlaces};
+ghost use Rattle.refspec.specs.Prefixes.{prefixedPlaces};
 ghost use Rattle.prefixes.specs.Group.{MeetsPrefixes};
 ghost use Rattle.view.specs.Places.{partOf};
 ghost use Rattle.answers.specs.Numbers.{specAnswer, instructionAnswer, prefixAnswer};
@@ -41,7 +41,7 @@ pub extern "C" fn vasigmon_parse(op: u64, spec: &[u8]) -> SpecAnswer
 // What a spec instructs.
 #[no_mangle]
 pub extern "C" fn vasigmon_instruction(op: u64, spec: &[u8]) -> InstructionAnswer
-    ensures { λ r. ⌜ r ≡ instructionAnswer (instructed op (now (spec .entry))) ⌝ }
+    ensures { λ r. ⌜ r ≡ instructionAnswer (instructedPlaces op (now (spec .entry))) ⌝ }
 {
     instruction_answer(instruction(op, spec))
 }
@@ -49,7 +49,7 @@ pub extern "C" fn vasigmon_instruction(op: u64, spec: &[u8]) -> InstructionAnswe
 // The prefix of a spec.
 #[no_mangle]
 pub extern "C" fn vasigmon_prefix(op: u64, spec: &[u8]) -> PrefixAnswer
-    ensures { λ r. ⌜ r ≡ prefixAnswer (prefixed op (now (spec .entry))) ⌝ }
+    ensures { λ r. ⌜ r ≡ prefixAnswer (prefixedPlaces op (now (spec .entry))) ⌝ }
 {
     prefix_answer(prefix(op, spec))
 }

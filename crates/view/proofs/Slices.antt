@@ -31,7 +31,7 @@ taken-within s start size h e = omega (arith, length-take size (drop start s), l
 
 module _ (specs items : Text) (p : meaning.Part) where
   -- a part with the bytes of a text is in its list
-  part-held : (which : meaning.Lent) (list rest d : Text) → meaning.lentList which specs items ≡ list → meaning.partAt which list rest (length d) ≡ p → d ≡ meaning.partText p specs items → (p .list ≡ which) × (p .start + p .size ≤ length (meaning.lentList (p .list) specs items))
+  part-held : (which : meaning.Lent) (list rest d : Text) → meaning.lentList which specs items ≡ list → meaning.partFrom which list rest (length d) ≡ p → d ≡ meaning.partText p specs items → (p .list ≡ which) × (p .start + p .size ≤ length (meaning.lentList (p .list) specs items))
   part-held which list rest d l e t =
       let u : d ≡ take (length d) (drop (length list - length rest) list) = t ∙ ap (λ (x : meaning.Part). meaning.partText x specs items) (sym e) ∙ ap (λ (x : Text). take (length d) (drop (length list - length rest) x)) l in
       let w : length list - length rest + length d ≤ length (meaning.lentList which specs items) = rw l (taken-within list (length list - length rest) (length d) (omega arith) (ap length u)) in

@@ -4,8 +4,8 @@ use borrow.Author.Needs.{needs}
 use Rattle.filter.proofs.alike.Statement.{statement}
 use Rattle.filter.proofs.alike.Tie as tie
 
-sized-requires : tie.Need-sized-requires
-sized-requires c κs = search needs
+size-filter-requires : tie.Need-size-filter-requires
+size-filter-requires c κs = search needs
 
 returns : tie.Need-returns
 returns c = search alike-short
@@ -20,4 +20,4 @@ returns-2 : tie.Need-returns-2
 returns-2 c = search alike-long
 
 pub alike-spec : {M : Type 1} → statement M
-alike-spec = tie.close (tie.spec sized-requires returns add-word word-requires returns-2)
+alike-spec = tie.close (tie.spec size-filter-requires returns add-word word-requires returns-2)

@@ -7,8 +7,8 @@ use Rattle.filter.proofs.part_filter.Tie as tie
 enum-told : tie.Need-enum-told
 enum-told c = search needs
 
-sized-requires : tie.Need-sized-requires
-sized-requires c κs = search needs
+size-filter-requires : tie.Need-size-filter-requires
+size-filter-requires c κs = search needs
 
 enum-known-side : tie.Need-enum-known-side
 enum-known-side c = search needs
@@ -36,7 +36,7 @@ part-filter-spec =
     tie.close
     (tie.spec
     enum-told
-    sized-requires
+    size-filter-requires
     enum-known-side
     framed-requires
     enum-told-2

@@ -7,8 +7,8 @@ use Rattle.filter.proofs.start_filter.Tie as tie
 enum-told : tie.Need-enum-told
 enum-told c = search needs
 
-sized-requires : tie.Need-sized-requires
-sized-requires c κs = search needs
+size-filter-requires : tie.Need-size-filter-requires
+size-filter-requires c κs = search needs
 
 enum-known-side : tie.Need-enum-known-side
 enum-known-side c = search needs
@@ -22,8 +22,8 @@ alike-requires c κs = search start-room
 enum-told-2 : tie.Need-enum-told-2
 enum-told-2 c = search needs
 
-sized-requires-2 : tie.Need-sized-requires-2
-sized-requires-2 c κs = search needs
+size-filter-requires-2 : tie.Need-size-filter-requires-2
+size-filter-requires-2 c κs = search needs
 
 returns : tie.Need-returns
 returns c = search start-absent
@@ -39,12 +39,12 @@ start-filter-spec =
     tie.close
     (tie.spec
     enum-told
-    sized-requires
+    size-filter-requires
     enum-known-side
     sub-alike
     alike-requires
     enum-told-2
-    sized-requires-2
+    size-filter-requires-2
     returns
     returns-2
     returns-3)

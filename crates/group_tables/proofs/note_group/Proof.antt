@@ -55,7 +55,7 @@ use Rattle.negatives.specs.Negatives.{negativeNumbers}
 use Rattle.spec_list.specs.declared.record.SpecRecord.{SpecRecord}
 use Rattle.spec_list.proofs.record.SpecRecord as T
 use Rattle.spec_list.proofs.record.SpecRecord.Laws as T′
-use Rattle.spec_list.proofs.TableParts.{recordBytes, past, cut, mend}
+use Rattle.spec_list.proofs.TableParts.{specRecordBytes, past, cut, mend}
 use Rattle.group_tables.specs.Standing.{Notable, NotedAll}
 use Rattle.group_tables.proofs.note_specs as callee
 use Rattle.group_tables.proofs.note_specs.Symbol as callee-def
@@ -167,7 +167,7 @@ module _ {M : Type 1} (𝓤 : URA M) (H : Heap 𝓤) (A : Atoms 𝓤) (W : Given
         let fits-in : n ≤ length xs = omega arith in
         let e₂ : length ys ≡ n = length-take-le n xs fits-in in
         let room0 : length ys < 2 ^ 64 = omega arith in
-        let room1 : length ys * recordBytes < 2 ^ 63 = omega arith in
+        let room1 : length ys * specRecordBytes < 2 ^ 63 = omega arith in
         qed W ((‵ (flft κ₀ q₀) ⊛ ‵ (flft κ₁ q₁) ⊛ ‵ (flft κ₂ q₂) ⊛ ‵ ftrue) ∷ ‵ (owns (ShrSlice (named 0) κ₀ u8 ∷ B ∷ usize ∷ MutSlice (named 1) κ₁ u16 ∷ MutSlice (named 2) κ₂ u16 ∷ []) args vs) ∷ []) ∵
         enter ! C Λ code.function (v₀ ∷ v ∷ vint w64 n ∷ v₁ ∷ v₂ ∷ []) _ $
         alloc1 ! (λ l₀. alloc1 ! (λ l₁. alloc1 ! (λ l₂. alloc1 ! (λ l₃. alloc1 ! (λ l₄. alloc1 ! (λ l₅. alloc1 ! (λ l₆. alloc1 ! (λ l₇. alloc1 ! (λ l₈. alloc1 ! (λ l₉. alloc1 ! (λ l₁₀. alloc1 ! (λ l₁₁. alloc1 ! (λ l₁₂. alloc0 ! $ params1 ! $

@@ -52,7 +52,7 @@ use Rattle.matcher_table.specs.Numbers.{matcherNumbers}
 use Rattle.negatives.specs.Negatives.{negativeNumbers}
 use Rattle.negatives.specs.Making.{Added}
 use Rattle.spec_list.specs.declared.record.SpecRecord.{SpecRecord}
-use Rattle.spec_list.specs.Table.{specFrom, recordAt}
+use Rattle.spec_list.specs.Table.{specFromRecord, recordAt}
 use Rattle.spec_list.specs.Group.{recordMeant}
 use Rattle.spec_list.proofs.record.SpecRecord as T
 use Rattle.spec_list.proofs.record.SpecRecord.Laws as T′
@@ -196,7 +196,7 @@ module _ {M : Type 1} (𝓤 : URA M) (H : Heap 𝓤) (A : Atoms 𝓤) (W : Given
 
   -- what it asks, and what it says of the number k and the lists ts and ns
   abbrev Asked : At → SpecRecord → Type 0
-  Asked t r = SidesWithin (length (s .now)) (specFrom r) × (length (s .now) ≤ specListBytes) × (matcherNumbers * t .i + matcherNumbers ≤ length (t .table)) × (negativeNumbers * t .count + negativeNumbers ≤ length (t .negatives))
+  Asked t r = SidesWithin (length (s .now)) (specFromRecord r) × (length (s .now) ≤ specListBytes) × (matcherNumbers * t .i + matcherNumbers ≤ length (t .table)) × (negativeNumbers * t .count + negativeNumbers ≤ length (t .negatives))
 
   abbrev Told : At → SpecRecord → ℕ → List ℕ → List ℕ → Type 0
   Told t r k ts ns = NotedAt (s .now) (recordMeant (s .now) r) (t .table) (t .i) ts × Added (s .now) (recordMeant (s .now) r) (t .negatives) (t .count) ns k

@@ -2,14 +2,14 @@
 use Prim.Native.Nat.{_-_}
 use native.Mathlib.Omega.{arith}
 use Rattle.negatives.specs.Negatives.{excludedBy}
-use Rattle.match_row.specs.Pairs.{specOf}
+use Rattle.match_row.specs.Pairs.{matcherSpec}
 use Rattle.search.proofs.Finding.{NamesFound, names-begin, names-next, names-fit, names-small, names-measured, names-noted, places-room, places-within, place-first, place-second, place-inside, place-few, place-short}
 use borrow.Author.Needs.{needs}
 use Rattle.search.proofs.found.names_found.Statement.{statement}
 use Rattle.search.proofs.found.names_found.Tie as tie
 
 abbrev Inv-loop : tie.InvT-loop
-Inv-loop specs m f items places negatives hits₀ scope i n size₀ known₀ j₀ hits size known j = NamesFound (scope .back) (excludedBy specs negatives (scope .negatives)) (specOf specs m) items places n i hits₀ known₀ hits size known j
+Inv-loop specs m f items places negatives hits₀ scope i n size₀ known₀ j₀ hits size known j = NamesFound (scope .back) (excludedBy specs negatives (scope .negatives)) (matcherSpec specs m) items places n i hits₀ known₀ hits size known j
 
 abbrev μ-loop : tie.MeasureT-loop
 μ-loop specs m f items places negatives hits₀ scope i n size₀ known₀ j₀ hits size known j = n - j

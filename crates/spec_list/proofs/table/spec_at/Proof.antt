@@ -1,4 +1,4 @@
--- `table::spec_at` meets its contract: a walk of its MIR, by hand. The place of `table[i]` is recordBytes * i past the slice's
+-- `table::spec_at` meets its contract: a walk of its MIR, by hand. The place of `table[i]` is specRecordBytes * i past the slice's
 -- pointer, that being a record's size; the slice is looked into, the record is taken out, copied and put back. Assumes nothing.
 use mathlib.Core.Path.{refl, sym}
 use Prim.Native.Nat.{ℕ, _<_, _*_, _^_}
@@ -40,7 +40,7 @@ use Rattle.spec_list.specs.Table.{blank, recordAt}
 use Rattle.spec_list.specs.declared.record.SpecRecord.{SpecRecord}
 use Rattle.spec_list.proofs.record.SpecRecord as T
 use Rattle.spec_list.proofs.record.SpecRecord.Laws as T′
-use Rattle.spec_list.proofs.TableParts.{recordBytes}
+use Rattle.spec_list.proofs.TableParts.{specRecordBytes}
 use Rattle.spec_list.proofs.table.spec_at.Key.{name as #spec-list·table·spec-at}
 use Rattle.spec_list.proofs.table.spec_at as self
 use Rattle.spec_list.proofs.table.spec_at.Statement as stated
@@ -84,14 +84,14 @@ module _ {M : Type 1} (𝓤 : URA M) (H : Heap 𝓤) (A : Atoms 𝓤) (W : Given
   module _ (C : Calls 𝓤 H) (Λ : Loops 𝓤 H) where
     walk : Room R (length ys) → i < 2 ^ 64 → i < length ys → ent 𝓤 (onEntry 𝓤 H A self.signature (κ, tt) (q, tt) x vs) (WpFn 𝓤 H C Λ code.function (sliceVal (b, o) (length ys) ∷ vint w64 i ∷ []) Post)
     walk gn gi l =
-        let bytes : length ys * recordBytes < 2 ^ 63 = gn .1 in
-        let small : i * recordBytes < 2 ^ 64 = omega arith in
+        let bytes : length ys * specRecordBytes < 2 ^ 63 = gn .1 in
+        let small : i * specRecordBytes < 2 ^ 64 = omega arith in
         qed W ((‵ (flft κ q) ⊛ ‵ ftrue) ∷ ‵ (owns (ShrSlice (named 0) κ R ∷ usize ∷ []) x vs) ∷ []) ∵ enter ! C Λ code.function (sliceVal (b, o) (length ys) ∷ vint w64 i ∷ []) _ $
         alloc1 ! (λ l₀. alloc1 ! (λ l₁. alloc1 ! (λ l₂. alloc1 ! (λ l₃. alloc1 ! (λ l₄. alloc1 ! (λ l₅. alloc0 ! $ params1 ! $
         pass1 ! (init ! 8 refl (tt, (tt, (record { fits = gn .0 }, tt)))) $ pass1 ! (init ! 6 refl (tt, record { fits = gi })) $ pass0 ! $
         assigns ! (bin ! (load ! (from ! (stop !)) (look ! 6 refl)) (lit ! tt) (record { fits = small })) (from ! (stop !)) (init ! 4 refl (tt, record { fits = small })) $
         assigns ! (bin ! (load ! (from ! (fld ! refl (stop !))) (look-in ! 8 (sub ! 0 refl (whole !)))) (load ! (from ! (stop !)) (look ! 4 refl)) tt) (from ! (stop !)) (init ! 2 refl (tt, tt)) $
-        rewrite ! 2 (λ (p : ℕ). ‵ (fat fullShare tyPtr l₄ 0 (vptr b p))) (sym (place-is recordBytes o i)) refl $
+        rewrite ! 2 (λ (p : ℕ). ‵ (fat fullShare tyPtr l₄ 0 (vptr b p))) (sym (place-is specRecordBytes o i)) refl $
         move ! (13 ∷ []) $ fsplit ! $ fsplit ! $ move ! (1 ∷ []) $ fsplit ! $ move ! (16 ∷ []) $ split ! $ move ! (3 ∷ 0 ∷ []) $
         looks-slice ! tt R (Is R) (shows 𝓤 H A R) (LL.vals T.the-type T′.the-laws) (LL.tells T.the-type T′.the-laws) (LL.copy T.the-type T′.the-copy 𝓤 H A W) ys b o (λ q′. elem-out ! R (Is R) (shows 𝓤 H A R) (LL.vals T.the-type T′.the-laws) (LL.tells T.the-type T′.the-laws) q′ ys i blank b o l (λ g.
         -- [table[i]; what it owns; the others; what shuts; the fractured borrow; true; res; the slice's fact; i's; _5; …; _4; …; _3; …; _2; …; _1; …; _0; …]

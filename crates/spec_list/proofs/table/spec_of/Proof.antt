@@ -52,7 +52,7 @@ use Rattle.spec_list.specs.Table.{recordAt}
 use Rattle.spec_list.specs.declared.record.SpecRecord.{SpecRecord}
 use Rattle.spec_list.proofs.record.SpecRecord as T
 use Rattle.spec_list.proofs.record.SpecRecord.Laws as T′
-use Rattle.spec_list.proofs.TableParts.{recordBytes, past, cut, mend}
+use Rattle.spec_list.proofs.TableParts.{specRecordBytes, past, cut, mend}
 use Rattle.spec_list.proofs.table.spec_at as callee
 use Rattle.spec_list.proofs.table.spec_at.Symbol as callee-def
 use Rattle.spec_list.proofs.table.spec_at.Symbol.{name as #spec-list·table·spec-at}
@@ -134,7 +134,7 @@ module _ {M : Type 1} (𝓤 : URA M) (H : Heap 𝓤) (A : Atoms 𝓤) (W : Given
         let fits-in : n ≤ length xs = omega arith in
         let e₂ : length ys ≡ n = length-take-le n xs fits-in in
         let room0 : length ys < 2 ^ 64 = omega arith in
-        let room1 : length ys * recordBytes < 2 ^ 63 = omega arith in
+        let room1 : length ys * specRecordBytes < 2 ^ 63 = omega arith in
         let within : i < length ys = omega arith in
         qed W (‵ ftrue ∷ ‵ (owns (B ∷ usize ∷ usize ∷ []) args vs) ∷ []) ∵ enter ! C Λ code.function (v ∷ vint w64 n ∷ vint w64 i ∷ []) _ $
         alloc1 ! (λ l₀. alloc1 ! (λ l₁. alloc1 ! (λ l₂. alloc1 ! (λ l₃. alloc1 ! (λ l₄. alloc1 ! (λ l₅. alloc1 ! (λ l₆. alloc0 ! $ params1 ! $

@@ -1,31 +1,15 @@
--- The rows of a row list that was read, as places in it, and the bytes of their conflicts.
+-- The bytes of the conflicts of rows, a buffer after a text was written, and where a destination stands.
 use Prim.Native.Nat.{ℕ, _+_, _≤_}
-use mathlib.Core.Path.{_≡_}
 use mathlib.Core.Bool.{cond}
-use mathlib.Core.List.{List, []}
+use mathlib.Core.List.{List}
 use lib.Dec.{leb}
 use lib.ListN.{length}
 use Rattle.meaning.specs.Bytes.{Text, each}
-use Rattle.meaning.specs.Spec.{Answer, accepted, refused}
-use Rattle.meaning.specs.Rows.{Row, readRows}
+use Rattle.meaning.specs.Rows.{Row}
 use Rattle.meaning.specs.Validation.{conflicts, conflictBytes}
 use Rattle.buffer.specs.Splice.{splice}
 use Rattle.parse.specs.declared.types.Side.{Side}
 use Rattle.parse.specs.declared.types.Side.the-variants.{Absent, Part, Head}
-
--- the rows that an answer accepts; none where it refuses
-abbrev pub rowsOf : Answer (List Row) → List Row
-rowsOf (accepted l) = l
-rowsOf (refused n r) = []
-
--- the rows of a row list under so many specs
-abbrev pub rowsIn : ℕ → Text → List Row
-rowsIn specs s = rowsOf (readRows specs s)
-
--- the row list was read
-pub record RowsRead (specs : ℕ) (s : Text) : Type 0 where
-  pub list : List Row
-  pub reads : readRows specs s ≡ accepted list
 
 -- the bytes of the conflicts of rows
 unfoldable pub conflictsBytes : List Row → Text
