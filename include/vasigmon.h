@@ -14,8 +14,8 @@
  * Answers. Each answer is a struct that is returned by value. Its field
  * `refusal` is 0 for a result, else one of the numbers of
  * `enum vasigmon_refusal`. A field without a meaning in an answer is 0, so in a
- * refusal every other field is 0 (but the length beside 17, and the number of the
- * record that a list is refused for).
+ * refusal every other field is 0 (but the length and the short buffer's number
+ * beside 17, and the number of the record that a list is refused for).
  *
  * Places. A side of a spec is answered as a kind (`enum vasigmon_side`) with a
  * start and a length: the bytes spec[start] to spec[start + length - 1] of the
