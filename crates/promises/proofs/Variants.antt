@@ -283,10 +283,15 @@ canonical-any-length : CanonicalOfAnyLength → ⊥
 unfolding everything noPlus
 canonical-any-length f = refused-accepted (f (textBytes (grows (specBytes - 2))) (grown (specBytes - 2) ∷ []) refl (lit≤ tt) refl .1)
 
--- sixteen specs grow to texts of the full length, which are too many bytes for a list
+-- specs that fill a list grow to texts that are too many bytes for one
 
+-- so many of the longest specs are more than a list may have
+abbrev tooMany : ℕ
+tooMany = specListBytes / specBytes + 1
+
+-- a list has room for so many specs of these letters, each with two bytes before them and two for its length
 abbrev letters : ℕ
-letters = specBytes - 5
+letters = specListBytes / tooMany - 4
 
 in-replicate : {A : Type 0} (a : A) (k : ℕ) {x : A} → In x (replicate k a) → x ≡ a
 in-replicate a zero m = elim m [ ]
@@ -295,10 +300,6 @@ in-replicate a (suc k) m = first (in-replicate a k) m
     first : {y : _} {l : List _} → (In y l → y ≡ a) → In y (a ∷ l) → y ≡ a
     first f here = refl
     first f (there n) = f n
-
--- so many of the longest specs are more than a spec list may have
-abbrev tooMany : ℕ
-tooMany = specListBytes / specBytes + 1
 
 grown-reads : readSpec 0 (grows letters) ≡ accepted (grown letters)
 unfolding everything
