@@ -9,12 +9,20 @@ use lib.Seq.{sets, sets-eq, take-add, take-all, drop-drop, length-take-le}
 use Rattle.meaning.specs.Bytes.{Text}
 use Rattle.buffer.specs.Splice.{splice}
 use Rattle.text.proofs.Rests.{rest-cons}
-use Rattle.buffer.proofs.Splices.{length-splice, splice-none, splice-more, splice-rest}
+use Rattle.buffer.proofs.Splices.{length-splice, splice-none, splice-next, splice-more, splice-rest}
 
 -- stores in a row are a splice
 sets-splice : (d : Text) (at : ℕ) (s : Text) → at + length s ≤ length d → sets d at s ≡ splice d at s
 unfolding splice
 sets-splice d at s h = sets-eq s d at h ∙ append-assoc (take at d) s (drop (at + length s) d)
+
+-- stored one after the other
+pub four-stored : (d : Text) (at v₀ v₁ v₂ v₃ : ℕ) → at + 4 ≤ length d → set (set (set (set d at v₀) (at + 1) v₁) (at + 2) v₂) (at + 3) v₃ ≡ splice d at (v₀ ∷ v₁ ∷ v₂ ∷ v₃ ∷ [])
+four-stored d at v₀ v₁ v₂ v₃ k =
+    let one : at + 1 ≡ suc at = add-one at in
+    let two : at + 2 ≡ suc (suc at) = omega arith in
+    let three : at + 3 ≡ suc (suc (suc at)) = omega arith in
+    rw (one, two, three) (sets-splice d at (v₀ ∷ v₁ ∷ v₂ ∷ v₃ ∷ []) k)
 
 -- the four bytes of s from i on
 four-bytes : (s : Text) (i : ℕ) → i + 4 ≤ length s → take 4 (drop i s) ≡ getD s i 0 ∷ getD s (i + 1) 0 ∷ getD s (i + 2) 0 ∷ getD s (i + 3) 0 ∷ []
@@ -23,40 +31,22 @@ four-bytes s i h =
     let three : i + 2 + 1 ≡ i + 3 = omega arith in
     rw (rest-cons s i (omega arith), rest-cons s (i + 1) (omega arith), two, rest-cons s (i + 2) (omega arith), three, rest-cons s (i + 3) (omega arith))
 
--- stored one after the other
-pub four-stored : (d s : Text) (at i : ℕ) → i + 4 ≤ length s → at + 4 ≤ length d
-    → set (set (set (set d at (getD s i 0)) (at + 1) (getD s (i + 1) 0)) (at + 2) (getD s (i + 2) 0)) (at + 3) (getD s (i + 3) 0) ≡ splice d at (take 4 (drop i s))
-four-stored d s at i h k =
-    let v = getD s i 0 ∷ getD s (i + 1) 0 ∷ getD s (i + 2) 0 ∷ getD s (i + 3) 0 ∷ [] in
-    let one : at + 1 ≡ suc at = add-one at in
-    let two : at + 2 ≡ suc (suc at) = omega arith in
-    let three : at + 3 ≡ suc (suc (suc at)) = omega arith in
-    rw (one, two, three, four-bytes s i h) (sets-splice d at v k)
+-- read, and then stored
+pub four-copied : (d s out : Text) (at i : ℕ) → i + 4 ≤ length s → out ≡ splice d at (getD s i 0 ∷ getD s (i + 1) 0 ∷ getD s (i + 2) 0 ∷ getD s (i + 3) 0 ∷ []) → out ≡ splice d at (take 4 (drop i s))
+four-copied d s out at i h e = rw (four-bytes s i h) e
 
--- the eight bytes of s from i on
-eight-bytes : (s : Text) (i : ℕ) → i + 8 ≤ length s
-    → take 8 (drop i s) ≡ getD s i 0 ∷ getD s (i + 1) 0 ∷ getD s (i + 2) 0 ∷ getD s (i + 3) 0 ∷ getD s (i + 4) 0 ∷ getD s (i + 5) 0 ∷ getD s (i + 6) 0 ∷ getD s (i + 7) 0 ∷ []
-eight-bytes s i h =
+-- read, and then stored in two halves
+pub eight-copied : (d s half out : Text) (at i : ℕ) → i + 8 ≤ length s → at + 8 ≤ length d
+    → half ≡ splice d at (getD s i 0 ∷ getD s (i + 1) 0 ∷ getD s (i + 2) 0 ∷ getD s (i + 3) 0 ∷ [])
+    → out ≡ splice half (at + 4) (getD s (i + 4) 0 ∷ getD s (i + 5) 0 ∷ getD s (i + 6) 0 ∷ getD s (i + 7) 0 ∷ [])
+    → out ≡ splice d at (take 8 (drop i s))
+eight-copied d s half out at i h k e f =
     let five : i + 4 + 1 ≡ i + 5 = omega arith in
     let six : i + 4 + 2 ≡ i + 6 = omega arith in
     let seven : i + 4 + 3 ≡ i + 7 = omega arith in
-    take-add 4 4 (drop i s)
-    ∙ rw (drop-drop 4 i s, four-bytes s i (omega arith), four-bytes s (i + 4) (omega arith), five, six, seven)
-
--- stored one after the other
-pub eight-stored : (d s : Text) (at i : ℕ) → i + 8 ≤ length s → at + 8 ≤ length d
-    → set (set (set (set (set (set (set (set d at (getD s i 0)) (at + 1) (getD s (i + 1) 0)) (at + 2) (getD s (i + 2) 0)) (at + 3) (getD s (i + 3) 0)) (at + 4) (getD s (i + 4) 0)) (at + 5) (getD s (i + 5) 0)) (at + 6) (getD s (i + 6) 0)) (at + 7) (getD s (i + 7) 0)
-    ≡ splice d at (take 8 (drop i s))
-eight-stored d s at i h k =
-    let v = getD s i 0 ∷ getD s (i + 1) 0 ∷ getD s (i + 2) 0 ∷ getD s (i + 3) 0 ∷ getD s (i + 4) 0 ∷ getD s (i + 5) 0 ∷ getD s (i + 6) 0 ∷ getD s (i + 7) 0 ∷ [] in
-    let one : at + 1 ≡ suc at = add-one at in
-    let two : at + 2 ≡ suc (suc at) = omega arith in
-    let three : at + 3 ≡ suc (suc (suc at)) = omega arith in
-    let four : at + 4 ≡ suc (suc (suc (suc at))) = omega arith in
-    let five : at + 5 ≡ suc (suc (suc (suc (suc at)))) = omega arith in
-    let six : at + 6 ≡ suc (suc (suc (suc (suc (suc at))))) = omega arith in
-    let seven : at + 7 ≡ suc (suc (suc (suc (suc (suc (suc at)))))) = omega arith in
-    rw (one, two, three, four, five, six, seven, eight-bytes s i h) (sets-splice d at v (omega arith))
+    f
+    ∙ rw (e, take-add 4 4 (drop i s), drop-drop 4 i s, four-bytes s i (omega arith), four-bytes s (i + 4) (omega arith), five, six, seven)
+    (splice-next d at (getD s i 0 ∷ getD s (i + 1) 0 ∷ getD s (i + 2) 0 ∷ getD s (i + 3) 0 ∷ []) (getD s (i + 4) 0 ∷ getD s (i + 5) 0 ∷ getD s (i + 6) 0 ∷ getD s (i + 7) 0 ∷ []) (at + 4) (omega arith) refl)
 
 -- the last k bytes of s are written over the first i
 pub last-over : (d s before after : Text) (at i k : ℕ) → at + length s ≤ length d → k ≤ length s → length s - k ≤ i → i ≤ length s

@@ -1,22 +1,27 @@
 // Copying a text into a buffer, several bytes at once: they are read before the first is stored, so that it is one load and one store.
 ghost use mathlib.Core.Path.{_≡_};
+ghost use mathlib.Core.List.{[], _∷_};
 ghost use Prim.Native.Nat.{_+_, _≤_, _<_};
 ghost use lib.ListN.{length, take, drop};
 ghost use Rattle.buffer.specs.Splice.{splice};
+
+// Stores four bytes one after the other.
+fn store_four(dst: &mut [u8], at: usize, a: u8, b: u8, c: u8, d: u8)
+    requires { ⌜ at + 4 ≤ length (now dst) ⌝ }
+    ensures { λ _. ⌜ now (dst .exit) ≡ splice (now (dst .entry)) at (a ∷ b ∷ c ∷ d ∷ []) ⌝ }
+{
+    dst[at] = a;
+    dst[at + 1] = b;
+    dst[at + 2] = c;
+    dst[at + 3] = d;
+}
 
 // Writes the four bytes of src from i on into dst at a place.
 fn copy_four(dst: &mut [u8], at: usize, src: &[u8], i: usize)
     requires { ⌜ (i + 4 ≤ length (now src)) × (at + 4 ≤ length (now dst)) ⌝ }
     ensures { λ _. ⌜ now (dst .exit) ≡ splice (now (dst .entry)) at (take 4 (drop i (now (src .entry)))) ⌝ }
 {
-    let a = src[i];
-    let b = src[i + 1];
-    let c = src[i + 2];
-    let d = src[i + 3];
-    dst[at] = a;
-    dst[at + 1] = b;
-    dst[at + 2] = c;
-    dst[at + 3] = d;
+    store_four(dst, at, src[i], src[i + 1], src[i + 2], src[i + 3]);
 }
 
 // Writes the eight bytes of src from i on into dst at a place.
@@ -32,14 +37,8 @@ fn copy_eight(dst: &mut [u8], at: usize, src: &[u8], i: usize)
     let f = src[i + 5];
     let g = src[i + 6];
     let h = src[i + 7];
-    dst[at] = a;
-    dst[at + 1] = b;
-    dst[at + 2] = c;
-    dst[at + 3] = d;
-    dst[at + 4] = e;
-    dst[at + 5] = f;
-    dst[at + 6] = g;
-    dst[at + 7] = h;
+    store_four(dst, at, a, b, c, d);
+    store_four(dst, at + 4, e, f, g, h);
 }
 
 // Writes src byte by byte, and answers the place after it.

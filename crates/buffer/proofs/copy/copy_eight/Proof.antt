@@ -1,7 +1,5 @@
--- `buffer::copy::copy_eight` meets its contract: eight stores in a row are the splice of eight bytes.
-use native.Mathlib.Omega.{arith}
-use lib.ListN.{length-set}
-use Rattle.buffer.proofs.Copies.{eight-stored}
+-- `buffer::copy::copy_eight` meets its contract: eight bytes that are read and then stored in two halves are a splice.
+use Rattle.buffer.proofs.Copies.{eight-copied}
 use borrow.Author.Needs.{needs}
 use Rattle.buffer.proofs.copy.copy_eight.Statement.{statement}
 use Rattle.buffer.proofs.copy.copy_eight.Tie as tie
@@ -51,56 +49,20 @@ add-h c = search needs
 shared-slice-read-h : tie.Need-shared-slice-read-h
 shared-slice-read-h c = search needs
 
-slice-write-dst : tie.Need-slice-write-dst
-slice-write-dst c = search needs
+store-four-requires : tie.Need-store-four-requires
+store-four-requires c κs = search needs
 
-add-dst : tie.Need-add-dst
-add-dst c = search needs
+add-store-four : tie.Need-add-store-four
+add-store-four c = search needs
 
-slice-write-dst-2 : tie.Need-slice-write-dst-2
-slice-write-dst-2 c = simp length-set (omega arith)
-
-add-dst-2 : tie.Need-add-dst-2
-add-dst-2 c = search needs
-
-slice-write-dst-3 : tie.Need-slice-write-dst-3
-slice-write-dst-3 c = simp length-set (omega arith)
-
-add-dst-3 : tie.Need-add-dst-3
-add-dst-3 c = search needs
-
-slice-write-dst-4 : tie.Need-slice-write-dst-4
-slice-write-dst-4 c = simp length-set (omega arith)
-
-add-dst-4 : tie.Need-add-dst-4
-add-dst-4 c = search needs
-
-slice-write-dst-5 : tie.Need-slice-write-dst-5
-slice-write-dst-5 c = simp length-set (omega arith)
-
-add-dst-5 : tie.Need-add-dst-5
-add-dst-5 c = search needs
-
-slice-write-dst-6 : tie.Need-slice-write-dst-6
-slice-write-dst-6 c = simp length-set (omega arith)
-
-add-dst-6 : tie.Need-add-dst-6
-add-dst-6 c = search needs
-
-slice-write-dst-7 : tie.Need-slice-write-dst-7
-slice-write-dst-7 c = simp length-set (omega arith)
-
-add-dst-7 : tie.Need-add-dst-7
-add-dst-7 c = search needs
-
-slice-write-dst-8 : tie.Need-slice-write-dst-8
-slice-write-dst-8 c = simp length-set (omega arith)
+store-four-requires-2 : tie.Need-store-four-requires-2
+store-four-requires-2 c κs = search needs
 
 same-length : tie.Need-same-length
-same-length c = simp length-set (omega arith)
+same-length c = search needs
 
 returns : tie.Need-returns
-returns c = search eight-stored
+returns c = search eight-copied
 
 pub copy-eight-spec : {M : Type 1} → statement M
 copy-eight-spec =
@@ -121,20 +83,8 @@ copy-eight-spec =
     shared-slice-read-g
     add-h
     shared-slice-read-h
-    slice-write-dst
-    add-dst
-    slice-write-dst-2
-    add-dst-2
-    slice-write-dst-3
-    add-dst-3
-    slice-write-dst-4
-    add-dst-4
-    slice-write-dst-5
-    add-dst-5
-    slice-write-dst-6
-    add-dst-6
-    slice-write-dst-7
-    add-dst-7
-    slice-write-dst-8
+    store-four-requires
+    add-store-four
+    store-four-requires-2
     same-length
     returns)
