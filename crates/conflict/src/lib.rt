@@ -1,4 +1,5 @@
-//! The conflict of a run, the rows of one destination, if two of them have different sources: measured and written.
+//! The conflict of a run, the rows of one destination, if two of them have different sources: measured and written. Port of
+//! `Issue::Conflict` and of how it is found in the crate's match_group/validate.rs.
 ghost use mathlib.Core.Path.{_≡_};
 ghost use Prim.Native.Nat.{_+_, _*_, _≤_, _<_};
 ghost use lib.ListN.{length};

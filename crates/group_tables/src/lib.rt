@@ -1,4 +1,5 @@
-// The specs of a group noted once for all names: their matchers as flat numbers, and the negatives apart.
+// The specs of a group noted once for all names: their matchers as flat numbers, and the negatives apart. Port of how `match_lhs` and
+// `match_rhs` make the matchers in the crate's match_group/mod.rs.
 ghost use Prim.Native.Nat.{_+_, _*_, _≤_};
 ghost use lib.ListN.{length, take};
 ghost use Rattle.meaning.specs.Limits.{specListBytes, specCount};

@@ -1,4 +1,5 @@
-// The rows that are kept and the fixes of those that go out: measured, and written.
+// The rows that are kept and the fixes of those that go out: measured, and written. Port of `Fix` and of the rows that `validated` retains
+// in the crate's match_group/validate.rs.
 ghost use mathlib.Core.Path.{_≡_};
 ghost use Prim.Native.Nat.{_+_, _≤_};
 ghost use lib.ListN.{length};

@@ -1,4 +1,5 @@
-// One spec on one name: how many bytes its row takes, unless a negative removes it, and writing a row that is known to stand.
+// One spec on one name: how many bytes its row takes, unless a negative removes it, and writing a row that is known to stand. Port of what
+// `match_lhs` and `match_rhs` do with one spec and one item in the crate's match_group/mod.rs.
 ghost use mathlib.Core.Path.{_≡_};
 ghost use mathlib.Core.List.{[]};
 ghost use Prim.Native.Nat.{_+_, _≤_, _<_};

@@ -1,4 +1,5 @@
-// A row of a listing with its texts as places: how many bytes it has, and writing it.
+// A row of a listing with its texts as places: how many bytes it has, and writing it. Port of `Mapping` in the crate's
+// match_group/types.rs.
 ghost use mathlib.Core.Path.{_≡_};
 ghost use Prim.Native.Nat.{_+_, _≤_};
 ghost use lib.ListN.{length};

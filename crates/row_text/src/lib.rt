@@ -1,4 +1,4 @@
-// The texts that a match makes: how many bytes they have, and writing them.
+// The texts that a match makes: how many bytes they have, and writing them. Port of `to_bstr_replace` in the crate's match_group/util.rs.
 ghost use mathlib.Core.Path.{_≡_};
 ghost use mathlib.Core.List.{_++_};
 ghost use Prim.Native.Nat.{_+_, _≤_};
