@@ -1,32 +1,33 @@
 /* Vasigmon: Git's refspecs, read, mapped and validated by code that is proved.
  *
- * A spec is a byte string that names a source and a destination of references.
- * It is read for fetch (operation 0) or for push (operation 1). A call is on one
- * spec, or on a list of specs and a list of names, which are called items. Each
- * call reads what it is lent: there is nothing to keep between two calls, nothing
- * to release, and no call allocates.
+ * A spec is a byte string that names a source and a destination of references. It
+ * is read for fetch (operation 0) or for push (operation 1). A call is on one spec,
+ * or on a list of specs and a list of names, which are called items. Each call
+ * reads what it is lent. No call allocates. There is nothing to keep between two
+ * calls, and nothing to release.
  *
  * Lending bytes. Every pointer is lent for the duration of the call together
  * with a length. A pointer must never be null, not even beside length 0: where
  * there is nothing to lend, pass the address of any byte. An output buffer must
  * not overlap anything else that is lent.
  *
- * Answers. Each answer is a struct that is returned by value. Its field
- * `refusal` is 0 for a result, else one of the numbers of
- * `enum vasigmon_refusal`. A field without a meaning in an answer is 0, so in a
- * refusal every other field is 0 (but the length and the short buffer's number
- * beside 17, and the number of the record that a list is refused for).
+ * Answers. Each answer is a struct that is returned by value. Its field `refusal`
+ * is 0 for a result, else one of the numbers of `enum vasigmon_refusal`. A field
+ * without a meaning in an answer is 0. So in a refusal every other field is 0, with
+ * two exceptions: with refusal 17, the length and the number of the short buffer;
+ * and, where a list is refused, the number of the record that it is refused for.
  *
  * Places. A side of a spec is answered as a kind (`enum vasigmon_side`) with a
  * start and a length: the bytes spec[start] to spec[start + length - 1] of the
  * spec that was lent. No answer holds a pointer.
  *
- * Lists. A number is written in groups of seven bits, lowest first, the top bit
- * set while more follow, in its shortest form and in at most three groups. A list
- * of specs, items or prefixes holds for each record its length, then its bytes.
- * Records count from 0. A spec list has at most 256 records, an item list 1,024,
- * and each at most 65,535 bytes; a name has at most 4,096. A list of rows, which
- * vasigmon_match_lhs describes, has at most 1,048,576 bytes.
+ * Lists. A number is written in groups of seven bits, lowest first, the top bit set
+ * while more follow, in its shortest form and in at most three groups (unsigned
+ * LEB128). A list of specs, items or prefixes holds for each record its length,
+ * then its bytes. Records count from 0. A spec list has at most 256 records, and an
+ * item list at most 1,024. Each of them has at most 65,535 bytes. A name has at
+ * most 4,096 bytes. A list of rows, which vasigmon_match_lhs describes, has at most
+ * 1,048,576 bytes.
  *
  * Link with libvasigmon.a, which `rt staticlib vasigmon` writes to
  * target/staticlib/. It needs nothing beyond the C library.
@@ -47,11 +48,12 @@ enum vasigmon_operation {
     VASIGMON_PUSH = 1
 };
 
-/* Why a call was refused: the first question that is answered by no gives the
- * number. 18 comes before all others. Of one spec, the questions are asked in this
- * order. Of lists, 12 comes first; then of each record in turn 14, then 13, then a
- * spec's own questions, or 15 of an item; of a row 13, then 16. The spec list is read
- * wholly before the items or the rows are looked at. 17 comes last. */
+/* Why a call was refused. A call asks questions in a fixed order, and the first
+ * question whose answer is no gives the number. 18 comes before all others. Of one
+ * spec, the questions are asked in the order of these numbers. Of a list, 12 comes
+ * first. Then each record is asked in turn: a spec 14, then 13, then its own
+ * questions; an item 14, then 13, then 15; a row 13, then 16. The spec list is read
+ * as a whole before the items or the rows are looked at. 17 comes last. */
 enum vasigmon_refusal {
     VASIGMON_ACCEPTED = 0,               /* no refusal: the answer is a result */
     VASIGMON_SPEC_TOO_LONG = 1,          /* the spec is above 4,096 bytes */
@@ -140,23 +142,23 @@ typedef struct vasigmon_prefix_t {
     uint64_t length;
 } vasigmon_prefix_t;
 
-/* Answers the prefix of a spec, of its source in fetch and of its destination
- * in push. `HEAD` and names beginning `refs/` have themselves; patterns
- * beginning `refs/` have what stands before the star, unless the star comes
- * right after `refs/` or a `]` is among the rest. All others, and negative
- * specs, have none. */
+/* Answers the prefix of a spec: in fetch the prefix of its source, in push that of
+ * its destination. The prefix of `HEAD`, and of a name that begins with `refs/`, is
+ * the whole name. The prefix of a pattern that begins with `refs/` is what stands
+ * before the star. There is none if the star comes right after `refs/`, or if a `]`
+ * is among the rest. All other names, and negative specs, have no prefix. */
 vasigmon_prefix_t vasigmon_prefix(uint64_t op, const uint8_t *spec, size_t spec_len);
 
 /* What a call did with the output buffer it was lent.
  *
  * With refusal 0, `length` bytes of the answer stand at the buffer's start, and
  * the bytes beyond them are as they were. With any refusal the whole buffer is
- * as it was. Beside VASIGMON_BUFFER_TOO_SHORT, `length` is the length of a
- * buffer that will do: at least what is needed and at most twice that. */
+ * as it was. With VASIGMON_BUFFER_TOO_SHORT, `length` is the length of a buffer
+ * that is long enough: at least what is needed and at most twice that. */
 typedef struct vasigmon_written {
     uint64_t refusal;
     uint64_t record;                     /* the number of the refused record of a list; 0 in a call on one spec,
-                                            and beside 12, 17 and 18, which are about no record */
+                                            and with 12, 17 and 18, which are about no record */
     uint64_t length;
 } vasigmon_written;
 
@@ -171,31 +173,31 @@ vasigmon_written vasigmon_to_bstring(uint64_t op, const uint8_t *spec, size_t sp
 vasigmon_written vasigmon_expand_prefixes(uint64_t op, const uint8_t *spec, size_t spec_len,
                                           uint8_t *out, size_t out_len);
 
-/* Writes the prefixes of the names that a list of specs asks the remote for: each
- * that vasigmon_expand_prefixes writes for some spec, exactly once, in an order
- * that is left open. */
+/* Writes the prefixes of the names that a list of specs asks the remote for. Each
+ * prefix that vasigmon_expand_prefixes writes for some spec is written exactly
+ * once. The order is unspecified. */
 vasigmon_written vasigmon_group_prefixes(uint64_t op, const uint8_t *specs, size_t specs_len,
                                          uint8_t *out, size_t out_len);
 
-/* Writes what a list of specs maps a list of items to, as rows. A row is: the
- * item's number plus 1, or 0 for none; the spec's number; the kind of the source, 0
- * for a name and 1 for an object id; the source's length and bytes, of an object id
- * its forty digits in lower case; then 0 for no destination, else its length plus 1
- * and its bytes.
+/* Writes the forward mapping of a list of items under a list of specs, as rows. A
+ * row has, in this order: the item's number plus 1, or 0 for none; the spec's
+ * number; the kind of the source, 0 for a name and 1 for an object id; the source's
+ * length and bytes, of an object id its forty digits in lower case; then 0 for no
+ * destination, else its length plus 1 and its bytes.
  *
  * First comes a row for each spec whose source is an object id, in the order of the
- * specs, whatever the items; then rows by spec, and then by item. A row's source is
- * the item's name. Negative specs give no rows, and take away those of names that
- * they match. Rows may repeat others. */
+ * specs, whatever the items. Then come the rows of items, by spec and then by item;
+ * their source is the item's name. Negative specs give no rows, and remove the rows
+ * of names that they match. Rows may repeat others. */
 vasigmon_written vasigmon_match_lhs(uint64_t op, const uint8_t *specs, size_t specs_len,
                                     const uint8_t *items, size_t items_len,
                                     uint8_t *out, size_t out_len);
 
-/* Writes what a list of specs maps a list of items back to, as rows, by spec and
- * then by item. A spec's destination is matched literally or as a pattern, and its
- * source is given as the spec has it, what the star stands for put in. A row's kind
- * is always 0, and its destination is the item's name. Negative specs take away rows
- * by their source. */
+/* Writes the reverse mapping of a list of items under a list of specs, as rows, by
+ * spec and then by item. A spec's destination is matched literally or as a pattern.
+ * The row's source is the spec's source as the spec has it, with what the star
+ * stands for in place of the star. The row's kind is always 0, and its destination
+ * is the item's name. Negative specs remove rows by their source. */
 vasigmon_written vasigmon_match_rhs(uint64_t op, const uint8_t *specs, size_t specs_len,
                                     const uint8_t *items, size_t items_len,
                                     uint8_t *out, size_t out_len);
@@ -206,34 +208,36 @@ vasigmon_written vasigmon_match_rhs(uint64_t op, const uint8_t *specs, size_t sp
  * With refusal 0, `length` bytes stand at the start of `out` and `fixes_length`
  * bytes at the start of `fixes`; the bytes beyond them are as they were. Where
  * `conflicts` is 1 the whole of `fixes` is as it was. With any refusal both buffers
- * are as they were. Beside VASIGMON_BUFFER_TOO_SHORT, `buffer` tells which is short
- * and `length` is the length of a buffer that will do in its place: at least what is
- * needed and at most twice that. */
+ * are as they were. With VASIGMON_BUFFER_TOO_SHORT, `buffer` tells which is short,
+ * and `length` is the length of one that is long enough in its place: at least what
+ * is needed and at most twice that. */
 typedef struct vasigmon_validation {
     uint64_t refusal;
     uint64_t record;                     /* as in vasigmon_written */
     uint64_t conflicts;                  /* 1 where out holds conflicts, 0 where it holds kept rows and fixes holds fixes */
     uint64_t length;
     uint64_t fixes_length;
-    uint64_t buffer;                     /* beside 17 the short buffer: 1 out, 2 fixes */
+    uint64_t buffer;                     /* with 17, the short buffer: 1 out, 2 fixes */
 } vasigmon_validation;
 
-/* Validates a list of rows, as vasigmon_match_lhs and vasigmon_match_rhs write them,
- * under the list of specs that their numbers are of. A row list has at most 1,048,576
- * bytes. A row whose spec number is not in the list, whose kind is not 0 or 1, or
- * whose object id is not forty digits in lower case gives 16.
+/* Validates a list of rows, as vasigmon_match_lhs and vasigmon_match_rhs write
+ * them. The spec numbers in the rows are numbers of the list `specs`. A row list
+ * has at most 1,048,576 bytes. A row gives 16 if its spec number is not in the
+ * list, if its kind is not 0 or 1, or if its object id is not forty digits in lower
+ * case.
  *
- * A destination on which two rows put different sources is in conflict. Where some
- * are, `out` holds the conflicts, in byte order of destination. A conflict is: the
- * destination's length and bytes; how many sources it has; and for each source, in
- * the order in which the rows first have it, the spec number of that row, the
- * source's kind, its length and its bytes. `fixes` is not asked then, and may be of
- * length 0.
+ * A destination is in conflict if two rows put different sources on it. If some
+ * destination is, `out` holds the conflicts, in byte order of destination. A
+ * conflict is: the destination's length and bytes; how many sources it has; and for
+ * each source, in the order in which the rows first have it, the spec number of
+ * that row, the source's kind, its length and its bytes. `fixes` is then not used,
+ * and may be of length 0.
  *
- * Where none are, `out` holds the rows in their order, without those whose
- * destination neither begins `refs/` nor is `HEAD`, and `fixes` holds for each of
- * these, in the order of the rows, the destination's length, its bytes and the spec's
- * number. `out` is asked first, then `fixes`, and nothing is written unless both are
+ * If no destination is in conflict, `out` holds the rows that are kept, in their
+ * order. A row is not kept if it has a destination that neither begins with `refs/`
+ * nor is `HEAD`. For each row that is not kept, in the order of the rows, `fixes`
+ * holds the destination's length, its bytes and the spec's number. `out` is asked
+ * first whether it is long enough, then `fixes`. Nothing is written unless both are
  * long enough. */
 vasigmon_validation vasigmon_validated(uint64_t op, const uint8_t *specs, size_t specs_len,
                                        const uint8_t *rows, size_t rows_len,
@@ -249,17 +253,17 @@ enum vasigmon_list {
 /* A part of one of two lists: `length` bytes from `start` on. */
 typedef struct vasigmon_part {
     uint64_t refusal;
-    uint64_t record;                     /* as in vasigmon_written; 0 beside 16 too */
+    uint64_t record;                     /* as in vasigmon_written; 0 with 16 too */
     uint64_t list;                       /* enum vasigmon_list */
     uint64_t start;
     uint64_t length;
 } vasigmon_part;
 
-/* Answers where the source of a forward row stands, by the row's first two numbers.
- * With `item_field` 0 it is the spec's source, an object id as the spec spells it.
- * With a higher field it is that item's name, whichever spec of the list is given.
- * Numbers outside the lists give 16, and so does field 0 where that spec's source is
- * no object id. */
+/* Answers where the source of a forward row stands. `item_field` and `spec` are the
+ * row's first two numbers. With `item_field` 0 the source is that of the spec, an
+ * object id as the spec spells it. With a higher field it is that item's name,
+ * whichever spec of the list is given. Numbers outside the lists give 16. So does
+ * field 0 if that spec's source is no object id. */
 vasigmon_part vasigmon_source(uint64_t op, const uint8_t *specs, size_t specs_len,
                               const uint8_t *items, size_t items_len,
                               uint64_t item_field, uint64_t spec);
