@@ -20,7 +20,7 @@ abbrev pub _else_then_ : Bool → ℕ → ℕ → ℕ
 true else n then rest = rest
 false else n then rest = n
 
--- `+` forces, `^` excludes. The numbers that stand for modes, absent sides and the supplied `HEAD` are the code's: crate `vasigmon`
+-- `+` forces, `^` excludes. The numbers that stand for modes, absent sides and the supplied `HEAD` are the code's: crate `answers`
 pub data Mode : Type 0 where
   Normal Force Negative : Mode
 
