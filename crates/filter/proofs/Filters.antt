@@ -22,7 +22,9 @@ use Rattle.parse.specs.declared.types.Side.the-variants as side
 use Rattle.parse.specs.Places.{partAt, Within}
 use Rattle.parse.proofs.Parts.{part-length}
 use Rattle.refspec.specs.Instructions.{sideText}
+use Rattle.matcher.specs.declared.types.Needle.{Needle}
 use Rattle.matcher.specs.declared.types.Needle.the-variants as needle
+use Rattle.matcher.specs.declared.types.Target.{Target}
 use Rattle.matcher.specs.declared.types.Target.the-variants as target
 use Rattle.matcher.specs.declared.types.Lead.{Lead}
 use Rattle.matcher.specs.declared.types.Matcher.{Matcher}
@@ -34,7 +36,7 @@ use Rattle.match_one.proofs.Onward.{forward-told}
 use Rattle.match_one.proofs.Backward.{back-told}
 use Rattle.filter.specs.declared.Filter.{Filter}
 use Rattle.frames.specs.Frames.{longestFrame}
-use Rattle.filter.specs.Filters.{frameAdds, looksRight, passes, FilterWithin, sizeFilter, alike, noFilter, wholeFilter, startFilter, partFilter, StopsForward, StopsReverse}
+use Rattle.filter.specs.Filters.{frameAdds, looksRight, passes, FilterWithin, sizeFilter, alike, noFilter, wholeFilter, startFilter, partFilter, needleFilter, targetFilter, forwardFilter, reverseFilter, StopsForward, StopsReverse}
 use Rattle.filter.proofs.Looks.{number-part}
 
 -- ---- what passes
@@ -173,23 +175,19 @@ module _ (specs : Text) (m : Matcher) (w : MatcherWithin (length specs) m) where
   forward-by : (f : Filter) → FilterWithin f → ((name : Text) → length name ≤ nameBytes → passes f name ≡ false → hitBy (needleMeant (sideText specs (m .src)) (m .lhs)) name ≡ miss) → StopsForward specs m f
   forward-by f i h = record { stops = λ name l p s k. sym (forward-told specs name m ends.Nothing (rw (h name l p) (record { meant = refl; within = tt })) s k); within = i }
 
-  module _ (f : Filter) where
-    pub forward-stops-absent : m .lhs ≡ needle.Absent → f ≡ noFilter → StopsForward specs m f
-    forward-stops-absent is e = rw e (forward-by noFilter (sized-within 1 0 false) (λ name l p. rw is))
-
-    pub forward-stops-object : m .lhs ≡ needle.Object → f ≡ noFilter → StopsForward specs m f
-    forward-stops-object is e = rw e (forward-by noFilter (sized-within 1 0 false) (λ name l p. rw is))
-
-    pub forward-stops-glob : (star : ℕ) → m .lhs ≡ needle.Glob star → f ≡ startFilter specs (m .src) star → StopsForward specs m f
-    forward-stops-glob star is e =
-        let i : StarIn star (m .src) = rw is at (w .lhs-within) in
-        rw e (forward-by (startFilter specs (m .src) star) (start-within specs (m .src) star i) (λ name l p. rw (is, start-stops specs (m .src) star name (w .src-within) i l p)))
-
-    pub forward-stops-full : m .lhs ≡ needle.FullName → f ≡ wholeFilter specs (m .src) → StopsForward specs m f
-    forward-stops-full is e = rw e (forward-by (wholeFilter specs (m .src)) (whole-within specs (m .src)) (λ name l p. rw (is, whole-stops specs (m .src) name (w .src-within) l p)))
-
-    pub forward-stops-part : m .lhs ≡ needle.PartialName → f ≡ partFilter (m .src) → StopsForward specs m f
-    forward-stops-part is e = rw e (forward-by (partFilter (m .src)) (part-filter-within (m .src)) (λ name l p. rw (is, part-stops specs (m .src) name (w .src-within) l p)))
+  -- each needle is missed by what its filter stops
+  pub forward-stops : StopsForward specs m (forwardFilter specs m)
+  unfolding forwardFilter
+  forward-stops = go (m .lhs) refl
+    where
+      go : (l : Needle) → m .lhs ≡ l → StopsForward specs m (needleFilter specs (m .src) l)
+      go needle.Absent is = forward-by noFilter (sized-within 1 0 false) (λ name l p. rw is)
+      go (needle.Glob star) is =
+          let i : StarIn star (m .src) = rw is at (w .lhs-within) in
+          forward-by (startFilter specs (m .src) star) (start-within specs (m .src) star i) (λ name l p. rw (is, start-stops specs (m .src) star name (w .src-within) i l p))
+      go needle.FullName is = forward-by (wholeFilter specs (m .src)) (whole-within specs (m .src)) (λ name l p. rw (is, whole-stops specs (m .src) name (w .src-within) l p))
+      go needle.Object is = forward-by noFilter (sized-within 1 0 false) (λ name l p. rw is)
+      go needle.PartialName is = forward-by (partFilter (m .src)) (part-filter-within (m .src)) (λ name l p. rw (is, part-stops specs (m .src) name (w .src-within) l p))
 
   -- a filter by which nothing comes back
   reverse-by : (f : Filter) → FilterWithin f → ((name : Text) → length name ≤ nameBytes → passes f name ≡ false → (g : Option Form) → reverseForms g (targetMeant (sideText specs (m .dst)) (m .rhs)) name ≡ none) → StopsReverse specs m f
@@ -209,20 +207,54 @@ module _ (specs : Text) (m : Matcher) (w : MatcherWithin (length specs) m) where
   back-whole t name (some (Form.literal u)) e = rw e
   back-whole t name (some (pattern c d)) e = refl
 
-  module _ (f : Filter) where
-    pub reverse-stops-absent : m .rhs ≡ target.Absent → f ≡ noFilter → StopsReverse specs m f
-    reverse-stops-absent is e = rw e (reverse-by noFilter (sized-within 1 0 false) (λ name l p g. rw is (back-none name g)))
+  -- each destination is missed by what its filter stops
+  pub reverse-stops : StopsReverse specs m (reverseFilter specs m)
+  unfolding reverseFilter
+  reverse-stops = go (m .rhs) refl
+    where
+      go : (r : Target) → m .rhs ≡ r → StopsReverse specs m (targetFilter specs (m .dst) r)
+      go target.Absent is = reverse-by noFilter (sized-within 1 0 false) (λ name l p g. rw is (back-none name g))
+      go (target.Pattern star) is =
+          let i : StarIn star (m .dst) = rw is at (w .rhs-within) in
+          let t = sideText specs (m .dst) in
+          reverse-by (startFilter specs (m .dst) star) (start-within specs (m .dst) star i)
+          (λ name l p g. rw is (back-start (take star t) (drop (suc star) t) name g (start-stops specs (m .dst) star name (w .dst-within) i l p)))
+      go (target.Literal led) is =
+          reverse-by (wholeFilter specs (m .dst)) (whole-within specs (m .dst)) (λ name l p g. rw is (back-whole (sideText specs (m .dst)) name g (whole-stops specs (m .dst) name (w .dst-within) l p)))
 
-    pub reverse-stops-pattern : (star : ℕ) → m .rhs ≡ target.Pattern star → f ≡ startFilter specs (m .dst) star → StopsReverse specs m f
-    reverse-stops-pattern star is e =
-        let i : StarIn star (m .dst) = rw is at (w .rhs-within) in
-        let t = sideText specs (m .dst) in
-        rw e (reverse-by (startFilter specs (m .dst) star) (start-within specs (m .dst) star i)
-        (λ name l p g. rw is (back-start (take star t) (drop (suc star) t) name g (start-stops specs (m .dst) star name (w .dst-within) i l p))))
+-- ---- the arms of a `match` on what a source looks for, and on what a destination is
+module _ (specs : Text) (m : Matcher) (f : Filter) where
+  pub forward-absent : m .lhs ≡ needle.Absent → f ≡ noFilter → f ≡ forwardFilter specs m
+  unfolding forwardFilter
+  forward-absent is e = rw is e
 
-    pub reverse-stops-literal : (l : Lead) → m .rhs ≡ target.Literal l → f ≡ wholeFilter specs (m .dst) → StopsReverse specs m f
-    reverse-stops-literal led is e =
-        rw e (reverse-by (wholeFilter specs (m .dst)) (whole-within specs (m .dst)) (λ name l p g. rw is (back-whole (sideText specs (m .dst)) name g (whole-stops specs (m .dst) name (w .dst-within) l p))))
+  pub forward-glob : (star : ℕ) → m .lhs ≡ needle.Glob star → f ≡ startFilter specs (m .src) star → f ≡ forwardFilter specs m
+  unfolding forwardFilter
+  forward-glob star is e = rw is e
+
+  pub forward-full : m .lhs ≡ needle.FullName → f ≡ wholeFilter specs (m .src) → f ≡ forwardFilter specs m
+  unfolding forwardFilter
+  forward-full is e = rw is e
+
+  pub forward-object : m .lhs ≡ needle.Object → f ≡ noFilter → f ≡ forwardFilter specs m
+  unfolding forwardFilter
+  forward-object is e = rw is e
+
+  pub forward-part : m .lhs ≡ needle.PartialName → f ≡ partFilter (m .src) → f ≡ forwardFilter specs m
+  unfolding forwardFilter
+  forward-part is e = rw is e
+
+  pub reverse-absent : m .rhs ≡ target.Absent → f ≡ noFilter → f ≡ reverseFilter specs m
+  unfolding reverseFilter
+  reverse-absent is e = rw is e
+
+  pub reverse-pattern : (star : ℕ) → m .rhs ≡ target.Pattern star → f ≡ startFilter specs (m .dst) star → f ≡ reverseFilter specs m
+  unfolding reverseFilter
+  reverse-pattern star is e = rw is e
+
+  pub reverse-literal : (l : Lead) → m .rhs ≡ target.Literal l → f ≡ wholeFilter specs (m .dst) → f ≡ reverseFilter specs m
+  unfolding reverseFilter
+  reverse-literal l is e = rw is e
 
 -- ---- the arms of a `match` on a side
 module _ (specs : Text) (s : Side) (f : Filter) where

@@ -1,9 +1,10 @@
 -- A name is looked at, and one name after the other. Assumes nothing.
 use mathlib.Core.Path.{_≡_, refl, sym, ap, _∙_}
-use mathlib.Core.Bool.{Bool, true, false}
+use mathlib.Core.Bool.{Bool, true, false, cond}
 use mathlib.Core.List.{List, [], _∷_}
 use Prim.Native.Nat.{ℕ, zero, suc, _+_, _-_, _*_, _≤_, _<_}
 use native.Mathlib.Omega.{arith}
+use native.Mathlib.Numerals.{add-one}
 use borrow.Author.Tests.{ne-eqb, le-leb, lt-leb, leb-true, eqb-true, eqb-false}
 use lib.Dec.{eqb, leb}
 use lib.ListN.{length, take, drop, getD}
@@ -13,7 +14,7 @@ use Rattle.compare.specs.Word.{number}
 use Rattle.parse.specs.Places.{partAt}
 use Rattle.parse.proofs.Parts.{part-length}
 use Rattle.filter.specs.declared.Filter.{Filter}
-use Rattle.filter.specs.Filters.{frameAdds, looksRight, passes, FilterWithin, nameAt}
+use Rattle.filter.specs.Filters.{frameAdds, looksRight, passes, FilterWithin, nameAt, firstFrom, nextPassing}
 
 -- ---- bytes that stand in a part of a text
 number-taken : (j k n q : ℕ) (s : Text) → j + k ≤ n → number q k (drop j (take n s)) ≡ number q k (drop j s)
@@ -108,24 +109,56 @@ none-passes f h name = go (leb (f .least) (length name)) refl
     go false e = refl
 
 -- ---- one name after the other
-module _ (f : Filter) (items : Text) (places : List ℕ) (from j : ℕ) where
-  abbrev pub Passed : Type 0
-  Passed = (k : ℕ) → from ≤ k → k < j → passes f (nameAt items places k) ≡ false
+
+-- the first number that passes is at or before the number after all of them, and none before it passes
+pub record First (test : ℕ → Bool) (from n r : ℕ) : Type 0 where
+  pub after : from ≤ r
+  pub within : r ≤ n
+  pub none : (k : ℕ) → from ≤ k → k < r → test k ≡ false
+
+first-is : (test : ℕ → Bool) (i k : ℕ) → First test i (i + k) (firstFrom test i k)
+first-is test i zero = record { after = omega arith; within = omega arith; none = λ k a b. absurd (omega arith) }
+first-is test i (suc k) = go (first-is test (suc i) k) (test i) refl
+  where
+    below : First test (suc i) (suc i + k) (firstFrom test (suc i) k) → test i ≡ false → (j : ℕ) → i ≤ j → j < firstFrom test (suc i) k → (t : Bool) → eqb i j ≡ t → test j ≡ false
+    below rest e j a b true q = rw (eqb-true i j q) at e
+    below rest e j a b false q = let d : i ≡ j → ⊥ = eqb-false i j q in rest .none j (omega (arith, d)) b
+
+    go : First test (suc i) (suc i + k) (firstFrom test (suc i) k) → (b : Bool) → test i ≡ b → First test i (i + suc k) (cond b i (firstFrom test (suc i) k))
+    go rest true e = record { after = omega arith; within = omega arith; none = λ k a b. absurd (omega arith) }
+    go rest false e = record { after = omega (arith, rest .after); within = omega (arith, rest .within); none = λ j a b. below rest e j a b (eqb i j) refl }
+
+module _ (f : Filter) (items : Text) (places : List ℕ) (n from : ℕ) where
+  -- what the first name that passes is, for those who ask for it
+  pub next-first : from ≤ n → First (λ k. passes f (nameAt items places k)) from n (nextPassing f items places n from)
+  unfolding nextPassing
+  next-first h =
+      let e : from + (n - from) ≡ n = omega arith in
+      rw e at (first-is (λ k. passes f (nameAt items places k)) from (n - from))
+
+  -- from each name passed over the first that passes is the same one
+  module _ (j : ℕ) (inv : nextPassing f items places n j ≡ nextPassing f items places n from) where
+    module _ (h : j < n) (at m : ℕ) (ea : at ≡ getD places (2 * j) 0) (em : m ≡ getD places (2 * j + 1) 0) (r : Bool) (er : r ≡ passes f (partAt items at m)) where
+      looked-at : passes f (nameAt items places j) ≡ r
+      looked-at = rw (← ea, ← em) (sym er)
+
+      pub passing-here : r ≡ true → j ≡ nextPassing f items places n from
+      unfolding nextPassing
+      passing-here e =
+          let z : n - j ≡ suc (n - (j + 1)) = omega arith in
+          rw (z, looked-at, e) at inv
+
+      pub passing-more : r ≡ false → nextPassing f items places n (j + 1) ≡ nextPassing f items places n from
+      unfolding nextPassing
+      passing-more e =
+          let z : n - j ≡ suc (n - suc j) = omega arith in
+          rw add-one (rw (z, looked-at, e) at inv)
+
+    pub passing-none : n ≤ j → j ≡ nextPassing f items places n from
+    unfolding nextPassing
+    passing-none h = let z : n - j ≡ 0 = omega arith in rw z at inv
 
 -- the next name stands in the list
 pub place-within : (items : Text) (places : List ℕ) (n : ℕ) → ((k : ℕ) → k < n → getD places (2 * k) 0 + getD places (2 * k + 1) 0 ≤ length items)
     → (j at m : ℕ) → j < n → at ≡ getD places (2 * j) 0 → m ≡ getD places (2 * j + 1) 0 → at + m ≤ length items
 place-within items places n h j at m l ea em = omega (arith, h j l)
-
--- none is passed yet
-pub passed-none : (f : Filter) (items : Text) (places : List ℕ) (from : ℕ) → Passed f items places from from
-passed-none f items places from k a b = absurd (omega arith)
-
--- one more is
-pub passed-more : (f : Filter) (items : Text) (places : List ℕ) (from j : ℕ) → Passed f items places from j → (at n : ℕ) → at ≡ getD places (2 * j) 0 → n ≡ getD places (2 * j + 1) 0 → (r : Bool) → r ≡ passes f (partAt items at n) → r ≡ false
-    → Passed f items places from (j + 1)
-passed-more f items places from j h at n ea en r er e0 k a b = go (eqb k j) refl
-  where
-    go : (t : Bool) → eqb k j ≡ t → passes f (nameAt items places k) ≡ false
-    go true e = rw (eqb-true k j e, ← ea, ← en) (sym er ∙ e0)
-    go false e = let d : k ≡ j → ⊥ = eqb-false k j e in h k a (omega (arith, d))

@@ -1,5 +1,5 @@
 -- A quick look at a name: how many bytes it has, and eight of them.
-use Prim.Native.Nat.{ℕ, _+_, _-_, _*_, _≤_}
+use Prim.Native.Nat.{ℕ, zero, suc, _+_, _-_, _*_, _≤_}
 use mathlib.Core.Path.{_≡_}
 use mathlib.Core.Bool.{Bool, true, false, cond}
 use mathlib.Core.List.{List}
@@ -16,6 +16,10 @@ use Rattle.parse.specs.declared.types.Side.the-variants.{Absent, Part, Head}
 use Rattle.parse.specs.Places.{partAt}
 use Rattle.frames.specs.Frames.{longestFrame}
 use Rattle.matcher.specs.declared.types.Matcher.{Matcher}
+use Rattle.matcher.specs.declared.types.Needle.{Needle}
+use Rattle.matcher.specs.declared.types.Needle.the-variants as needle
+use Rattle.matcher.specs.declared.types.Target.{Target}
+use Rattle.matcher.specs.declared.types.Target.the-variants as target
 use Rattle.matcher.specs.Matching.{Matches}
 use Rattle.filter.specs.declared.Filter.{Filter}
 
@@ -38,6 +42,17 @@ FilterWithin f = f .worded ≡ true → f .from + 8 ≤ f .least
 -- name number k of an item list, by the places where the names stand, two numbers for each
 abbrev pub nameAt : Text → List ℕ → ℕ → Text
 nameAt items places k = partAt items (getD places (2 * k) 0) (getD places (2 * k + 1) 0)
+
+-- ---- the names of a list
+
+-- the first of k numbers from i on that passes a test; the number after them where none does
+abbrev pub firstFrom : (ℕ → Bool) → ℕ → ℕ → ℕ
+firstFrom test i zero = i
+firstFrom test i (suc k) = cond (test i) i (firstFrom test (suc i) k)
+
+-- the number, `from` or after it, of the first of n names that passes a filter; n where none does
+unfoldable pub nextPassing : Filter → Text → List ℕ → ℕ → ℕ → ℕ
+nextPassing f items places n from = firstFrom (λ k. passes f (nameAt items places k)) from (n - from)
 
 -- ---- the filters
 
@@ -72,6 +87,27 @@ abbrev pub partFilter : Side → Filter
 partFilter Absent = sizeFilter 0 nameBytes false
 partFilter (Part at n) = sizeFilter n (n + longestFrame) true
 partFilter Head = sizeFilter 4 (4 + longestFrame) true
+
+-- by what a source looks for
+abbrev pub needleFilter : Text → Side → Needle → Filter
+needleFilter s side needle.Absent = noFilter
+needleFilter s side (needle.Glob star) = startFilter s side star
+needleFilter s side needle.FullName = wholeFilter s side
+needleFilter s side needle.Object = noFilter
+needleFilter s side needle.PartialName = partFilter side
+
+-- by what a destination is
+abbrev pub targetFilter : Text → Side → Target → Filter
+targetFilter s side target.Absent = noFilter
+targetFilter s side (target.Pattern star) = startFilter s side star
+targetFilter s side (target.Literal l) = wholeFilter s side
+
+-- the filter of a spec's forward rows, and of its reverse rows
+unfoldable pub forwardFilter : Text → Matcher → Filter
+forwardFilter specs m = needleFilter specs (m .src) (m .lhs)
+
+unfoldable pub reverseFilter : Text → Matcher → Filter
+reverseFilter specs m = targetFilter specs (m .dst) (m .rhs)
 
 -- what a filter stops has no forward row under the spec of a matcher
 pub record StopsForward (specs : Text) (m : Matcher) (f : Filter) : Type 0 where

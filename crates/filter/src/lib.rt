@@ -7,7 +7,7 @@ ghost use Rattle.meaning.specs.Limits.{specListBytes};
 ghost use Rattle.parse.specs.Places.{partAt, Within};
 ghost use Rattle.matcher.specs.Matching.{MatcherWithin, StarIn};
 ghost use Rattle.frames.specs.Frames.{longestFrame};
-ghost use Rattle.filter.specs.Filters.{frameAdds, passes, FilterWithin, nameAt, sizeFilter, alike, noFilter, wholeFilter, startFilter, partFilter, StopsForward, StopsReverse};
+ghost use Rattle.filter.specs.Filters.{frameAdds, passes, FilterWithin, nextPassing, sizeFilter, alike, noFilter, wholeFilter, startFilter, partFilter, forwardFilter, reverseFilter};
 use frames::LONGEST_FRAME;
 use limits::NAME_BYTES;
 use matcher::types::Matcher;
@@ -115,7 +115,7 @@ fn part_filter(len: usize, side: Side) -> Filter
 // The filter of a spec's forward rows.
 pub fn forward_filter(specs: &[u8], m: Matcher) -> Filter
     requires { ⌜ MatcherWithin (length (now specs)) m × (length (now specs) ≤ specListBytes) ⌝ }
-    ensures { λ f. ⌜ StopsForward (now (specs .entry)) m f ⌝ }
+    ensures { λ f. ⌜ f ≡ forwardFilter (now (specs .entry)) m ⌝ }
 {
     let src = m.src;
     let lhs = m.lhs;
@@ -131,7 +131,7 @@ pub fn forward_filter(specs: &[u8], m: Matcher) -> Filter
 // The filter of a spec's reverse rows.
 pub fn reverse_filter(specs: &[u8], m: Matcher) -> Filter
     requires { ⌜ MatcherWithin (length (now specs)) m × (length (now specs) ≤ specListBytes) ⌝ }
-    ensures { λ f. ⌜ StopsReverse (now (specs .entry)) m f ⌝ }
+    ensures { λ f. ⌜ f ≡ reverseFilter (now (specs .entry)) m ⌝ }
 {
     let dst = m.dst;
     let rhs = m.rhs;
@@ -180,7 +180,7 @@ fn passes(f: Filter, items: &[u8], start: usize, n: usize) -> bool
 // The number, `from` or after it, of the first of n names that passes a filter; n where none does.
 pub fn next_passing(f: Filter, items: &[u8], places: &[u16], n: usize, from: usize) -> usize
     requires { ⌜ FilterWithin f × (from ≤ n) × (2 * n ≤ length (now places)) × ((k : ℕ) → k < n → getD (now places) (2 * k) 0 + getD (now places) (2 * k + 1) 0 ≤ length (now items)) ⌝ }
-    ensures { λ r. ⌜ (from ≤ r) × (r ≤ n) × ((k : ℕ) → from ≤ k → k < r → passes f (nameAt (now (items .entry)) (now (places .entry)) k) ≡ false) ⌝ }
+    ensures { λ r. ⌜ r ≡ nextPassing f (now (items .entry)) (now (places .entry)) n from ⌝ }
 {
     let mut j = from;
     while j < n {

@@ -15,8 +15,9 @@ use Rattle.parse.proofs.Parts.{part-length}
 use Rattle.matcher.specs.declared.types.Matcher.{Matcher}
 use Rattle.matcher_table.specs.Numbers.{matcherNumbers, matcherAt}
 use Rattle.filter.specs.declared.Filter.{Filter}
-use Rattle.filter.specs.Filters.{passes, nameAt, StopsForward, StopsReverse}
-use Rattle.filter.proofs.Looks.{none-passes}
+use Rattle.filter.specs.Filters.{passes, nameAt, nextPassing, forwardFilter, reverseFilter}
+use Rattle.filter.proofs.Filters.{forward-stops, reverse-stops}
+use Rattle.filter.proofs.Looks.{First, next-first, none-passes}
 use Rattle.row.specs.Rows.{rowMost}
 use Rattle.match_row.specs.Pairs.{matcherSpec, itemBytes, objectBytes}
 use Rattle.match_row.specs.Asking.{MatcherReady}
@@ -70,11 +71,22 @@ module _ (specs : Text) (table : List ℕ) (group : ℕ) (t : TableReady specs t
 -- ---- a filter
 
 module _ (back : Bool) (specs : Text) (m : Matcher) (f : Filter) (r : MatcherReady specs m) where
-  pub stops-back : back ≡ true → StopsReverse specs m f → Stops back specs m f
-  stops-back e h = rw e (record { stops = λ name l p. h .stops name l p (matcherSpec specs m) (r .matches); within = h .within })
+  pub stops-back : back ≡ true → f ≡ reverseFilter specs m → Stops back specs m f
+  stops-back e q =
+      let h = reverse-stops specs m (r .matches .within) in
+      rw (e, q) (record { stops = λ name l p. h .stops name l p (matcherSpec specs m) (r .matches); within = h .within })
 
-  pub stops-on : back ≡ false → StopsForward specs m f → Stops back specs m f
-  stops-on e h = rw e (record { stops = λ name l p. h .stops name l p (matcherSpec specs m) (r .matches); within = h .within })
+  pub stops-on : back ≡ false → f ≡ forwardFilter specs m → Stops back specs m f
+  stops-on e q =
+      let h = forward-stops specs m (r .matches .within) in
+      rw (e, q) (record { stops = λ name l p. h .stops name l p (matcherSpec specs m) (r .matches); within = h .within })
+
+-- the next name that passes
+next-over : (f : Filter) (items : Text) (places : List ℕ) (n a b : ℕ) → b ≡ nextPassing f items places n a → a ≤ n → First (λ k. passes f (nameAt items places k)) a n b
+next-over f items places n a b e h = rw e (next-first f items places n a h)
+
+pub next-less : (f : Filter) (items : Text) (places : List ℕ) (n j to : ℕ) → j < n → to ≡ nextPassing f items places n (j + 1) → n - to < n - j
+next-less f items places n j to h e = omega (arith, next-over f items places n (j + 1) to e (omega arith) .after)
 
 -- ---- the names under one spec
 
@@ -103,41 +115,44 @@ module _ (back : Bool) (gone : Text → Bool) (specs : Text) (m : Matcher) (f : 
   stopped-hit : (k : ℕ) → k < n → passes f (nameAt items places k) ≡ false → hitsOf k ≡ []
   stopped-hit k h e = rw (stopped k h e)
 
-  module _ (a b : ℕ) (l : a ≤ b) (within : b ≤ n) (off : (k : ℕ) → a ≤ k → k < b → passes f (nameAt items places k) ≡ false) where
+  module _ (a b : ℕ) (over : First (λ k. passes f (nameAt items places k)) a n b) where
     jump-bytes : across bytesOf a (n - a) ≡ across bytesOf b (n - b)
-    jump-bytes = across-jump bytesOf a b n l within (λ k q r. stopped k (omega arith) (off k q r))
+    jump-bytes = across-jump bytesOf a b n (over .after) (over .within) (λ k q r. stopped k (omega (arith, over .within)) (over .none k q r))
 
     jump-hits : across hitsOf a (n - a) ≡ across hitsOf b (n - b)
-    jump-hits = across-jump hitsOf a b n l within (λ k q r. stopped-hit k (omega arith) (off k q r))
+    jump-hits = across-jump hitsOf a b n (over .after) (over .within) (λ k q r. stopped-hit k (omega (arith, over .within)) (over .none k q r))
 
-  pub names-begin : (hits : List ℕ) (noted j : ℕ) → 0 ≤ j → j ≤ n → ((k : ℕ) → 0 ≤ k → k < j → passes f (nameAt items places k) ≡ false)
-      → NamesFound back gone (matcherSpec specs m) items places n i hits noted hits 0 noted j
-  names-begin hits noted j z l off =
+  names-start : (hits : List ℕ) (noted j : ℕ) → First (λ k. passes f (nameAt items places k)) 0 n j → NamesFound back gone (matcherSpec specs m) items places n i hits noted hits 0 noted j
+  names-start hits noted j over =
       let e : n - 0 ≡ n = omega arith in
       record {
-        there = l;
-        counted = counted-starts (across bytesOf 0 n) (across bytesOf j (n - j)) rowMost (rw e at (jump-bytes 0 j z l off)) j;
+        there = over .within;
+        counted = counted-starts (across bytesOf 0 n) (across bytesOf j (n - j)) rowMost (rw e at (jump-bytes 0 j over)) j;
         long = refl;
-        noting = noting-starts hits noted (across hitsOf 0 n) (across hitsOf j (n - j)) (rw e at (jump-hits 0 j z l off));
+        noting = noting-starts hits noted (across hitsOf 0 n) (across hitsOf j (n - j)) (rw e at (jump-hits 0 j over));
       }
+
+  pub names-begin : (hits : List ℕ) (noted j : ℕ) → j ≡ nextPassing f items places n 0 → NamesFound back gone (matcherSpec specs m) items places n i hits noted hits 0 noted j
+  names-begin hits noted j e = names-start hits noted j (next-over f items places n 0 j e (omega arith))
 
   module _ (first : List ℕ) (start : ℕ) (hits : List ℕ) (size known j : ℕ) (c : NamesFound back gone (matcherSpec specs m) items places n i first start hits size known j) where
     -- one name more
     pub names-next : j < n → (k : ℕ) (name : Text) → k ≡ length (itemBytes back gone i j name (matcherSpec specs m)) → (at len : ℕ) → name ≡ partAt items at len → at ≡ getD places (2 * j) 0 → len ≡ getD places (2 * j + 1) 0 → k ≤ rowMost
         → (after : List ℕ) (next : ℕ) → Adds hits known (hitIf (length (itemBytes back gone i j name (matcherSpec specs m))) (hitOf i (j + 1))) after next
-        → (to : ℕ) → j + 1 ≤ to → to ≤ n → ((k : ℕ) → j + 1 ≤ k → k < to → passes f (nameAt items places k) ≡ false)
+        → (to : ℕ) → to ≡ nextPassing f items places n (j + 1)
         → NamesFound back gone (matcherSpec specs m) items places n i first start after (size + k) next to
-    names-next h k name es at len en ea el ks after next a to l w off =
+    names-next h k name es at len en ea el ks after next a to et =
+        let over = next-over f items places n (j + 1) to et (omega arith) in
         let e : name ≡ nameAt items places j = rw (ea, el) at en in
         let text = across-next bytesOf j n h in
         let codes = across-next hitsOf j n h in
         let more = counted-more (across bytesOf 0 n) size (across bytesOf j (n - j)) j rowMost (c .counted) (bytesOf j) (across bytesOf (j + 1) (n - (j + 1))) text k (es ∙ ap (λ (t : Text). length (itemBytes back gone i j t s)) e) ks in
         let noted = noting-more first start (across hitsOf 0 n) hits known (across hitsOf j (n - j)) (c .noting) (hitsOf j) (across hitsOf (j + 1) (n - (j + 1))) codes after next (rw e at a) in
         record {
-          there = w;
-          counted = counted-on (across bytesOf 0 n) (size + k) (across bytesOf (j + 1) (n - (j + 1))) (j + 1) rowMost more (across bytesOf to (n - to)) (jump-bytes (j + 1) to l w off) to (omega arith);
+          there = over .within;
+          counted = counted-on (across bytesOf 0 n) (size + k) (across bytesOf (j + 1) (n - (j + 1))) (j + 1) rowMost more (across bytesOf to (n - to)) (jump-bytes (j + 1) to over) to (omega (arith, over .after));
           long = a .long ∙ c .long;
-          noting = noting-on first start (across hitsOf 0 n) after next (across hitsOf (j + 1) (n - (j + 1))) noted (across hitsOf to (n - to)) (jump-hits (j + 1) to l w off);
+          noting = noting-on first start (across hitsOf 0 n) after next (across hitsOf (j + 1) (n - (j + 1))) noted (across hitsOf to (n - to)) (jump-hits (j + 1) to over);
         }
 
     pub names-fit : j < n → (k : ℕ) → k ≤ rowMost → Fits w64 (size + k)
@@ -155,7 +170,7 @@ module _ (back : Bool) (gone : Text → Bool) (specs : Text) (m : Matcher) (f : 
   -- where no name passes, none gives anything
   module _ (empty : f .most < f .least) (hits : List ℕ) (noted : ℕ) where
     all-stopped : NamesFound back gone (matcherSpec specs m) items places n i hits noted hits 0 noted n
-    all-stopped = names-begin hits noted n (omega arith) (omega arith) (λ k a b. none-passes f empty (nameAt items places k))
+    all-stopped = names-start hits noted n (record { after = omega arith; within = omega arith; none = λ k a b. none-passes f empty (nameAt items places k) })
 
     pub stopped-measured : 0 ≡ length (namesGive back gone (matcherSpec specs m) items places n i)
     stopped-measured = names-measured hits noted hits 0 noted n all-stopped (omega arith)

@@ -1,6 +1,6 @@
--- `filter::forward_filter` meets its contract: each needle is missed by what its filter stops.
+-- `filter::forward_filter` meets its contract: each needle has its filter.
 use Rattle.match_one.proofs.Onward.{needle-star-in}
-use Rattle.filter.proofs.Filters.{forward-stops-absent, forward-stops-glob, forward-stops-full, forward-stops-object, forward-stops-part}
+use Rattle.filter.proofs.Filters.{forward-absent, forward-glob, forward-full, forward-object, forward-part}
 use borrow.Author.Needs.{needs}
 use Rattle.filter.proofs.forward_filter.Statement.{statement}
 use Rattle.filter.proofs.forward_filter.Tie as tie
@@ -20,9 +20,6 @@ start-filter-requires c κs = (search needs, search needle-star-in)
 enum-told-2 : tie.Need-enum-told-2
 enum-told-2 c = search needs
 
-whole-filter-requires : tie.Need-whole-filter-requires
-whole-filter-requires c κs = search needs
-
 enum-told-3 : tie.Need-enum-told-3
 enum-told-3 c = search needs
 
@@ -36,19 +33,19 @@ part-filter-requires : tie.Need-part-filter-requires
 part-filter-requires c κs = search needs
 
 returns : tie.Need-returns
-returns c = search forward-stops-absent
+returns c = search forward-absent
 
 returns-2 : tie.Need-returns-2
-returns-2 c = search forward-stops-glob
+returns-2 c = search forward-glob
 
 returns-3 : tie.Need-returns-3
-returns-3 c = search forward-stops-full
+returns-3 c = search forward-full
 
 returns-4 : tie.Need-returns-4
-returns-4 c = search forward-stops-object
+returns-4 c = search forward-object
 
 returns-5 : tie.Need-returns-5
-returns-5 c = search forward-stops-part
+returns-5 c = search forward-part
 
 pub forward-filter-spec : {M : Type 1} → statement M
 forward-filter-spec =
@@ -59,7 +56,7 @@ forward-filter-spec =
     enum-known-lhs
     start-filter-requires
     enum-told-2
-    whole-filter-requires
+    (λ c κs. search needs)
     enum-told-3
     no-filter-requires-2
     enum-told-4

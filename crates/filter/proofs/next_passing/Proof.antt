@@ -1,19 +1,21 @@
--- `filter::next_passing` meets its contract: none of the names before number j passes.
+-- `filter::next_passing` meets its contract: from each name passed over the first that passes is the same one.
 use Prim.Native.Nat.{_-_, _≤_}
 use native.Mathlib.Omega.{arith}
-use Rattle.filter.proofs.Looks.{Passed, passed-none, passed-more, place-within}
+use mathlib.Core.Path.{_≡_, refl}
+use Rattle.filter.specs.Filters.{nextPassing}
+use Rattle.filter.proofs.Looks.{passing-here, passing-more, passing-none, place-within}
 use borrow.Author.Needs.{needs}
 use Rattle.filter.proofs.next_passing.Statement.{statement}
 use Rattle.filter.proofs.next_passing.Tie as tie
 
 abbrev Inv-loop : tie.InvT-loop
-Inv-loop f items places n from j₀ j = (from ≤ j) × (j ≤ n) × Passed f items places from j
+Inv-loop f items places n from j₀ j = (j ≤ n) × (nextPassing f items places n j ≡ nextPassing f items places n from)
 
 abbrev μ-loop : tie.MeasureT-loop
 μ-loop f items places n from j₀ j = n - j
 
 loop-holds : tie.Need-loop-holds Inv-loop μ-loop
-loop-holds c = (omega arith, omega arith, search passed-none)
+loop-holds c = (omega arith, refl)
 
 mul-wide : tie.Need-mul-wide Inv-loop μ-loop
 mul-wide c = search needs
@@ -46,7 +48,7 @@ passes-requires : tie.Need-passes-requires Inv-loop μ-loop
 passes-requires c κs = (search needs, search place-within)
 
 returns : tie.Need-returns Inv-loop μ-loop
-returns c = search needs
+returns c = search passing-here
 
 add-j : tie.Need-add-j Inv-loop μ-loop
 add-j c = search needs
@@ -55,10 +57,10 @@ loop-less : tie.Need-loop-less Inv-loop μ-loop
 loop-less c = omega arith
 
 loop-again : tie.Need-loop-again Inv-loop μ-loop
-loop-again c = (omega arith, omega arith, search passed-more)
+loop-again c = (omega arith, search passing-more)
 
 returns-2 : tie.Need-returns-2 Inv-loop μ-loop
-returns-2 c = search needs
+returns-2 c = search passing-none
 
 pub next-passing-spec : {M : Type 1} → statement M
 next-passing-spec =

@@ -1,6 +1,6 @@
--- `filter::reverse_filter` meets its contract: each destination is missed by what its filter stops.
+-- `filter::reverse_filter` meets its contract: each destination has its filter.
 use Rattle.match_one.proofs.Onward.{target-star-in}
-use Rattle.filter.proofs.Filters.{reverse-stops-absent, reverse-stops-pattern, reverse-stops-literal}
+use Rattle.filter.proofs.Filters.{reverse-absent, reverse-pattern, reverse-literal}
 use borrow.Author.Needs.{needs}
 use Rattle.filter.proofs.reverse_filter.Statement.{statement}
 use Rattle.filter.proofs.reverse_filter.Tie as tie
@@ -20,17 +20,14 @@ start-filter-requires c κs = (search needs, search target-star-in)
 enum-told-2 : tie.Need-enum-told-2
 enum-told-2 c = search needs
 
-whole-filter-requires : tie.Need-whole-filter-requires
-whole-filter-requires c κs = search needs
-
 returns : tie.Need-returns
-returns c = search reverse-stops-absent
+returns c = search reverse-absent
 
 returns-2 : tie.Need-returns-2
-returns-2 c = search reverse-stops-pattern
+returns-2 c = search reverse-pattern
 
 returns-3 : tie.Need-returns-3
-returns-3 c = search reverse-stops-literal
+returns-3 c = search reverse-literal
 
 pub reverse-filter-spec : {M : Type 1} → statement M
 reverse-filter-spec =
@@ -41,7 +38,7 @@ reverse-filter-spec =
     enum-known-rhs
     start-filter-requires
     enum-told-2
-    whole-filter-requires
+    (λ c κs. search needs)
     returns
     returns-2
     returns-3)

@@ -3,7 +3,7 @@ use Prim.Native.Nat.{_-_}
 use native.Mathlib.Omega.{arith}
 use Rattle.negatives.specs.Negatives.{excludedBy}
 use Rattle.match_row.specs.Pairs.{matcherSpec}
-use Rattle.search.proofs.Finding.{NamesFound, names-begin, names-next, names-fit, names-small, names-measured, names-noted, places-room, places-within, place-first, place-second, place-inside, place-few, place-short}
+use Rattle.search.proofs.Finding.{NamesFound, names-begin, next-less, names-next, names-fit, names-small, names-measured, names-noted, places-room, places-within, place-first, place-second, place-inside, place-few, place-short}
 use borrow.Author.Needs.{needs}
 use Rattle.search.proofs.found.names_found.Statement.{statement}
 use Rattle.search.proofs.found.names_found.Tie as tie
@@ -63,7 +63,7 @@ next-passing-requires-2 : tie.Need-next-passing-requires-2 Inv-loop μ-loop
 next-passing-requires-2 c κs = (search needs, search needs, search places-room, search places-within)
 
 loop-less : tie.Need-loop-less Inv-loop μ-loop
-loop-less c = omega arith
+loop-less c = search next-less
 
 loop-again : tie.Need-loop-again Inv-loop μ-loop
 loop-again c = search names-next
