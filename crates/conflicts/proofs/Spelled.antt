@@ -7,7 +7,7 @@ use Prim.Native.Nat.{ℕ, suc, _*_, _≤_, _<_}
 use native.Mathlib.Omega.{arith}
 use borrow.Author.Tests.{lt-ltb}
 use mir.Val.{Fits}
-use mir.Syntax.{w8}
+use mir.Syntax.{w8, w64}
 use lib.ListN.{length, getD, length-append}
 use Rattle.meaning.specs.Bytes.{Text, every, each}
 use Rattle.meaning.specs.Number.{numberBytes, textBytes}
@@ -59,6 +59,14 @@ unfolding rowListOf
 rows-long [] = omega arith
 rows-long (r ∷ l) = omega (arith, row-long r, rows-long l, length-append (rowBytes r) (each l rowBytes))
 
+-- how many rows a list has at most
+most-rows : (specs : ℕ) (s : Text) → RowsRead specs s → ((i : ℕ) → Fits w8 (getD s i 0)) → length (rowsIn specs s) ≤ manyRows
+most-rows specs s r o = omega (arith, list-short specs s r, ap length (spelled specs s r o), rows-long (rowsIn specs s))
+
 -- room for the rows of any list
 pub many-room : (specs : ℕ) (s : Text) → RowsRead specs s → ((i : ℕ) → Fits w8 (getD s i 0)) → (d : List ℕ) → length d ≡ manyRows → length (rowsIn specs s) ≤ length d
-many-room specs s r o d e = omega (arith, list-short specs s r, ap length (spelled specs s r o), rows-long (rowsIn specs s))
+many-room specs s r o d e = omega (arith, most-rows specs s r o)
+
+-- a room that is too small can be made larger
+pub larger-fits : (specs : ℕ) (s : Text) → RowsRead specs s → ((i : ℕ) → Fits w8 (getD s i 0)) → (count room : ℕ) → count ≡ length (rowsIn specs s) → room < count → Fits w64 (16 * room)
+larger-fits specs s r o count room e l = omega (arith, most-rows specs s r o)

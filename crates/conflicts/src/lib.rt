@@ -9,10 +9,7 @@ mod index;
 mod rooms;
 
 use rooms::FEW;
-use rooms::SOME;
-use rooms::put_few;
-use rooms::put_many;
-use rooms::put_some;
+use rooms::put_from;
 
 // Writes the conflicts of a list of so many rows at the start of a buffer that has room for them, and answers how many bytes they take; 0
 // where there is none.
@@ -20,11 +17,5 @@ pub fn put_conflicts(out: &mut [u8], rows: &[u8], specs: usize, count: usize) ->
     requires { ⌜ RowsRead specs (now rows) × (count ≡ length (rowsIn specs (now rows))) ⌝ }
     ensures { λ r. ⌜ (r ≡ length (conflictsBytes (rowsIn specs (now (rows .entry))))) × (now (out .exit) ≡ putIfRoom (now (out .entry)) (conflictsBytes (rowsIn specs (now (rows .entry))))) ⌝ }
 {
-    if count <= FEW {
-        return put_few(out, rows, specs);
-    }
-    if count <= SOME {
-        return put_some(out, rows, specs);
-    }
-    put_many(out, rows, specs)
+    put_from(out, rows, specs, count, FEW)
 }
