@@ -192,7 +192,7 @@ collecting-starts op specs group n table scratch =
 module _ (op : ℕ) (specs : Text) (group : List SpecRecord) (n : ℕ) (table₀ : List ℕ) (scratch₀ : Text) (table : List ℕ) (scratch : Text) (c i : ℕ) (m : Collecting op specs group n table₀ scratch₀ table scratch c i) where
   module _ (below : i < n) (few-specs : n ≤ specCount) where
     -- the table has room for six more
-    pub collecting-room : tableRoom ≤ length table₀ → 3 * (c + 6) ≤ length table
+    pub collecting-room : tableRoom n ≤ length table₀ → 3 * (c + 6) ≤ length table
     collecting-room h = omega (arith, m .few, m .kept)
 
     module _ (size : length group ≡ specCount) (q : SpecRecord) (is : q ≡ recordAt (take n group) i) (r : RefSpec) (tells : r ≡ specFromRecord q) (in-list : AllWithin (length specs) (take n group)) where

@@ -20,9 +20,17 @@ groupTexts op group = addAll [] (each group (expandPrefixes op))
 abbrev pub textsMost : ℕ
 textsMost = 6 * specCount
 
--- room for as many entries, three numbers for each
-abbrev pub tableRoom : ℕ
-tableRoom = 3 * textsMost
+-- room for the texts of n specs: an entry for each, of three numbers
+abbrev pub tableRoom : ℕ → ℕ
+tableRoom n = 3 * (6 * n)
+
+-- how many specs small tables have room for
+abbrev pub fewSpecs : ℕ
+fewSpecs = 16
+
+-- and how many bytes their list may have
+abbrev pub shortList : ℕ
+shortList = 64 * fewSpecs
 
 -- a table of c entries holds them
 pub record Collected (op : ℕ) (specs : Text) (group : List Spec) (table : List ℕ) (c : ℕ) : Type 0 where

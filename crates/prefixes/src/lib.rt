@@ -1,7 +1,7 @@
 // The prefix list of a group of specs: each prefix that some spec yields, once, in first-seen order.
 ghost use mathlib.Core.List.{[], _∷_};
 ghost use mathlib.Core.Option.{some};
-ghost use Prim.Native.Nat.{_+_, _*_, _≤_};
+ghost use Prim.Native.Nat.{_+_, _*_, _≤_, _<_};
 ghost use lib.ListN.{length, take};
 ghost use Rattle.meaning.specs.Limits.{specListBytes, specCount};
 ghost use Rattle.meaning.specs.Spec.{accepted};
@@ -13,7 +13,7 @@ ghost use Rattle.write.specs.Yields.{yieldMeant, YieldWithin};
 ghost use Rattle.spec_list.specs.Group.{groupMeant, AllWithin};
 ghost use Rattle.prefixes.specs.Table.{tableTexts, Entries, Entered};
 ghost use Rattle.frames.specs.Frames.{longestFrame};
-ghost use Rattle.prefixes.specs.Group.{groupTexts, textsMost, tableRoom, Collected, MeetsPrefixes};
+ghost use Rattle.prefixes.specs.Group.{groupTexts, textsMost, tableRoom, fewSpecs, shortList, Collected, MeetsPrefixes};
 
 mod entry;
 mod table;
@@ -40,8 +40,16 @@ use table::table_size;
 use write::prefixes::Yield;
 use write::prefixes::yield_of;
 
-// Numbers of the table: three for an entry, and a spec yields a candidate for each frame at most.
-const TABLE: usize = 3 * FRAMES * SPEC_COUNT;
+// How many specs, and how many bytes of a spec list, small tables have room for.
+const FEW: usize = 16;
+
+const SHORT: usize = 64 * FEW;
+
+// How many times as many specs the larger tables have room for.
+const STEP: usize = SPEC_COUNT / FEW;
+
+// Numbers of a table for a spec: three for an entry, and a candidate for each frame at most.
+const SPEC_TABLE: usize = 3 * FRAMES;
 
 // Bytes of the longest text of an entry: a spec list in the longest frame.
 const SCRATCH: usize = SPEC_LIST_BYTES + LONGEST_FRAME;
@@ -109,7 +117,7 @@ fn collect(
     table: &mut [usize],
     scratch: &mut [u8],
 ) -> usize
-    requires { ⌜ (n ≤ specCount) × AllWithin (length (now specs)) (take n group) × (tableRoom ≤ length (now table)) × (length (now specs) + longestFrame ≤ length (now scratch)) ⌝ }
+    requires { ⌜ (n ≤ specCount) × AllWithin (length (now specs)) (take n group) × (tableRoom n ≤ length (now table)) × (length (now specs) + longestFrame ≤ length (now scratch)) ⌝ }
     ensures { λ r. ⌜ Collected op (now (specs .entry)) (groupMeant (now (specs .entry)) (take n group)) (now (table .exit)) r ⌝ }
 {
     let mut count = 0;
@@ -136,8 +144,41 @@ fn list_table(specs: &[u8], table: &[usize], count: usize, out: &mut [u8]) -> Wr
     done(size)
 }
 
-// The prefix list of the first n specs of a table.
-fn list_group(
+// The prefix list of the first n specs of a table, by tables that have room for it.
+fn list_in(
+    op: u64,
+    specs: &[u8],
+    group: [SpecRecord; SPEC_COUNT],
+    n: usize,
+    table: &mut [usize],
+    scratch: &mut [u8],
+    out: &mut [u8],
+) -> Written
+    requires { ⌜ (n ≤ specCount) × AllWithin (length (now specs)) (take n group) × (length (now specs) ≤ specListBytes) × (tableRoom n ≤ length (now table)) × (length (now specs) + longestFrame ≤ length (now scratch)) ⌝ }
+    ensures { λ w. ⌜ MeetsOne (accepted (some (recordBytes (groupTexts op (groupMeant (now (specs .entry)) (take n group)))) ∷ [])) (now (out .entry)) (now (out .exit)) (w .refusal) (w .record) (w .length) ⌝ }
+{
+    let count = collect(op, specs, group, n, table, scratch);
+    list_table(specs, table, count, out)
+}
+
+// The prefix list of few specs, by small tables.
+fn list_few(
+    op: u64,
+    specs: &[u8],
+    group: [SpecRecord; SPEC_COUNT],
+    n: usize,
+    out: &mut [u8],
+) -> Written
+    requires { ⌜ (n ≤ fewSpecs) × AllWithin (length (now specs)) (take n group) × (length (now specs) ≤ shortList) ⌝ }
+    ensures { λ w. ⌜ MeetsOne (accepted (some (recordBytes (groupTexts op (groupMeant (now (specs .entry)) (take n group)))) ∷ [])) (now (out .entry)) (now (out .exit)) (w .refusal) (w .record) (w .length) ⌝ }
+{
+    let mut table = [0usize; SPEC_TABLE * FEW];
+    let mut scratch = [0u8; SHORT + LONGEST_FRAME];
+    list_in(op, specs, group, n, &mut table, &mut scratch, out)
+}
+
+// The prefix list of any specs.
+fn list_many(
     op: u64,
     specs: &[u8],
     group: [SpecRecord; SPEC_COUNT],
@@ -147,10 +188,34 @@ fn list_group(
     requires { ⌜ (n ≤ specCount) × AllWithin (length (now specs)) (take n group) × (length (now specs) ≤ specListBytes) ⌝ }
     ensures { λ w. ⌜ MeetsOne (accepted (some (recordBytes (groupTexts op (groupMeant (now (specs .entry)) (take n group)))) ∷ [])) (now (out .entry)) (now (out .exit)) (w .refusal) (w .record) (w .length) ⌝ }
 {
-    let mut table = [0usize; TABLE];
+    let mut table = [0usize; SPEC_TABLE * SPEC_COUNT];
     let mut scratch = [0u8; SCRATCH];
-    let count = collect(op, specs, group, n, &mut table, &mut scratch);
-    list_table(specs, &table, count, out)
+    list_in(op, specs, group, n, &mut table, &mut scratch, out)
+}
+
+// The prefix list of the first n specs of a table, by tables that have room for `room` specs, or else by larger ones. It calls itself, so
+// that LLVM leaves the tables of each size in a frame of their own: where all were in one frame, few specs would take the stack of many.
+fn list_group(
+    op: u64,
+    specs: &[u8],
+    group: [SpecRecord; SPEC_COUNT],
+    n: usize,
+    room: usize,
+    out: &mut [u8],
+) -> Written
+    requires { ⌜ (n ≤ specCount) × AllWithin (length (now specs)) (take n group) × (length (now specs) ≤ specListBytes) × (0 < room) ⌝ }
+    ensures { λ w. ⌜ MeetsOne (accepted (some (recordBytes (groupTexts op (groupMeant (now (specs .entry)) (take n group)))) ∷ [])) (now (out .entry)) (now (out .exit)) (w .refusal) (w .record) (w .length) ⌝ }
+{
+    if room < n {
+        return list_group(op, specs, group, n, STEP * room, out);
+    }
+    if FEW < room {
+        return list_many(op, specs, group, n, out);
+    }
+    if SHORT < specs.len() {
+        return list_many(op, specs, group, n, out);
+    }
+    list_few(op, specs, group, n, out)
 }
 
 // The prefix list of the group that a spec list holds, for an operation, 0 fetch or 1 push.
@@ -163,5 +228,5 @@ pub fn group_prefixes(op: u64, specs: &[u8], out: &mut [u8]) -> Written
     }
     let group = g.specs;
     let n = g.count;
-    list_group(op, specs, group, n, out)
+    list_group(op, specs, group, n, FEW, out)
 }

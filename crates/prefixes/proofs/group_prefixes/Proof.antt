@@ -1,5 +1,6 @@
 -- A refusal is told, and an accepted list gives its group. Assumes nothing.
 use Rattle.prefixes.proofs.Groups.{group-refused, group-count, group-within, group-short, group-accepted}
+use native.Mathlib.Omega.{arith}
 use borrow.Author.Needs.{needs}
 use Rattle.prefixes.proofs.group_prefixes.Statement.{statement}
 use Rattle.prefixes.proofs.group_prefixes.Tie as tie
@@ -14,7 +15,7 @@ returns : tie.Need-returns
 returns c = search group-refused
 
 list-group-requires : tie.Need-list-group-requires
-list-group-requires c κs = (search group-count, search group-within, search group-short)
+list-group-requires c κs = (search group-count, search group-within, search group-short, omega arith)
 
 same-length : tie.Need-same-length
 same-length c = search needs
