@@ -17,11 +17,11 @@ use Rattle.parse.specs.Places.{partAt, Within, SidesWithin, specMeant}
 use Rattle.refspec.specs.Instructions.{sideText}
 use Rattle.refspec.specs.Prefixes.{remotePlace}
 use Rattle.frames.specs.Frames.{candidate}
-use Rattle.write.specs.declared.prefixes.Yield.{Yield}
-use Rattle.write.specs.declared.prefixes.Yield.the-variants.{Nothing, One, Six}
-use Rattle.write.specs.Yields.{yieldPlace, yieldMeant, YieldWithin}
+use Rattle.expand.specs.declared.Yield.{Yield}
+use Rattle.expand.specs.declared.Yield.the-variants.{Nothing, One, Six}
+use Rattle.expand.specs.Yields.{yieldPlace, yieldMeant, YieldWithin}
 use Rattle.refspec.proofs.Fronts.{remote-within}
-use Rattle.write.proofs.Lists.{expand-is, yield-within}
+use Rattle.expand.proofs.Lists.{expand-is, yield-within}
 use Rattle.spec_list.specs.Group.{groupMeant, AllWithin}
 use Rattle.spec_list.specs.declared.record.SpecRecord.{SpecRecord}
 use Rattle.spec_list.specs.Table.{specFromRecord, recordAt}

@@ -9,7 +9,7 @@ ghost use Rattle.meaning.specs.Number.{recordBytes};
 ghost use Rattle.meaning.specs.Prefix.{candidates, expandPrefixes};
 ghost use Rattle.meaning.specs.Buffers.{MeetsOne};
 ghost use Rattle.parse.specs.Places.{partAt, SidesWithin, specMeant};
-ghost use Rattle.write.specs.Yields.{yieldMeant, YieldWithin};
+ghost use Rattle.expand.specs.Yields.{yieldMeant, YieldWithin};
 ghost use Rattle.spec_list.specs.Group.{groupMeant, AllWithin};
 ghost use Rattle.prefixes.specs.Table.{tableTexts, Entries, Entered};
 ghost use Rattle.frames.specs.Frames.{longestFrame};
@@ -24,6 +24,8 @@ use buffer::written::refused;
 use buffer::written::short;
 use entry::Entry;
 use entry::side_entry;
+use expand::Yield;
+use expand::yield_of;
 use frames::FRAMES;
 use frames::LONGEST_FRAME;
 use limits::SPEC_COUNT;
@@ -37,8 +39,6 @@ use spec_list::table::spec_of;
 use table::add;
 use table::put_table;
 use table::table_size;
-use write::prefixes::Yield;
-use write::prefixes::yield_of;
 
 // How many specs, and how many bytes of a spec list, small tables have room for.
 const FEW: usize = 16;

@@ -16,14 +16,14 @@ use super::field::Next;
 use super::field::bytes_field;
 use super::field::text_field;
 use super::list::list_field;
+use expand::expand_prefixes;
 use parse::types::Side;
 use refspec::instruction::Instruction;
 use refspec::spec::Instructed;
 use refspec::spec::Prefixed;
 use refspec::spec::instruction;
 use refspec::spec::prefix;
-use write::canonical::to_bstring;
-use write::prefixes::expand_prefixes;
+use write::to_bstring;
 
 // The number of an instruction's kind.
 fn kind(i: Instruction) -> u8

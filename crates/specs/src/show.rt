@@ -4,6 +4,7 @@ use super::print::say_line;
 use super::print::say_number;
 use super::print::say_reason;
 use super::print::say_text;
+use expand::expand_prefixes;
 use frames::FRAMES;
 use number::Number;
 use parse::types::Side;
@@ -12,8 +13,7 @@ use refspec::spec::Instructed;
 use refspec::spec::Prefixed;
 use refspec::spec::instruction;
 use refspec::spec::prefix;
-use write::canonical::to_bstring;
-use write::prefixes::expand_prefixes;
+use write::to_bstring;
 
 // Names a line whose spec is refused.
 fn show_refusal(number: u64, n: u64) {

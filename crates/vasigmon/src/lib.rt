@@ -17,6 +17,7 @@ use answers::instruction_answer;
 use answers::prefix_answer;
 use answers::spec_answer;
 use buffer::written::Written;
+use expand::expand_prefixes;
 use match_group::match_lhs;
 use match_group::match_rhs;
 use parse::parse;
@@ -27,8 +28,7 @@ use validate::Validation;
 use validate::validated;
 use view::Part;
 use view::source;
-use write::canonical::to_bstring;
-use write::prefixes::expand_prefixes;
+use write::to_bstring;
 
 // Reads one spec for an operation, 0 fetch or 1 push.
 #[no_mangle]

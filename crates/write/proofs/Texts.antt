@@ -25,11 +25,11 @@ use Rattle.parse.specs.declared.Parsed.the-variants.{Spec, Refused}
 use Rattle.parse.specs.Places.{modeMeant, Within, SidesWithin, specMeant, parsed, isPresent}
 use Rattle.refspec.specs.declared.instruction.Instruction.{Instruction}
 use Rattle.refspec.specs.declared.instruction.Instruction.the-variants.{FetchOnly, FetchExclude, FetchAndUpdate, PushAllMatchingBranches, PushDelete, PushMatching, PushExclude}
-use Rattle.write.specs.declared.canonical.Pieces.{Pieces}
+use Rattle.write.specs.declared.Pieces.{Pieces}
 use Rattle.refspec.specs.Instructions.{sideText, fetchPlaces, pushPlaces, instructionPlaces, instructionMeant}
 use Rattle.write.specs.Canonical.{onePiece, twoPieces, piecesOf, signText, colonText, piecesText, PiecesWithin}
 use Rattle.refspec.proofs.Instructions.{instruction-meant}
-use Rattle.write.proofs.Meets.{spec-accepted, spec-refused}
+use Rattle.spec_text.proofs.Meets.{spec-accepted, spec-refused}
 
 -- ---- the pieces
 

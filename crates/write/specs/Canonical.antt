@@ -8,7 +8,7 @@ use Rattle.parse.specs.declared.types.Side.the-variants.{Absent}
 use Rattle.parse.specs.Places.{Within}
 use Rattle.refspec.specs.declared.instruction.Instruction.{Instruction}
 use Rattle.refspec.specs.declared.instruction.Instruction.the-variants.{FetchOnly, FetchExclude, FetchAndUpdate, PushAllMatchingBranches, PushDelete, PushMatching, PushExclude}
-use Rattle.write.specs.declared.canonical.Pieces.{Pieces}
+use Rattle.write.specs.declared.Pieces.{Pieces}
 use Rattle.refspec.specs.Instructions.{sideText}
 
 -- the byte of a sign, 0 for none

@@ -1,3 +1,2 @@
--- `Canonical`: the pieces of the canonical text. `Yields`: what a spec yields for its prefix list, as places.
+-- `Canonical`: the pieces of the canonical text.
 pub mod Canonical
-pub mod Yields

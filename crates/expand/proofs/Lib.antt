@@ -1,0 +1,3 @@
+-- `Yields`: what a spec yields. `Lists`: a yield as a prefix list.
+pub mod Yields
+pub mod Lists

@@ -1,0 +1,2 @@
+-- `Yields`: what a spec yields for its prefix list, as places.
+pub mod Yields
