@@ -29,6 +29,9 @@
  * most 4,096 bytes. A list of rows, which vasigmon_match_lhs describes, has at most
  * 1,048,576 bytes.
  *
+ * Stack. `enum vasigmon_stack` states how much each entry needs. The main thread
+ * and a thread of the usual size, 2 MB or more, have enough for every call.
+ *
  * Link with libvasigmon.a, which `rt staticlib vasigmon` writes to
  * target/staticlib/. It needs nothing beyond the C library.
  */
@@ -99,6 +102,18 @@ enum vasigmon_instruction_kind {
     VASIGMON_PUSH_DELETE = 4,            /* delete the destination; no source is present */
     VASIGMON_PUSH_MATCHING = 5,          /* push the source to the destination */
     VASIGMON_PUSH_EXCLUDE = 6            /* leave the source out of what other specs push */
+};
+
+/* How many bytes of stack a thread must have to make a call, in addition to what
+ * the caller itself keeps there. What the C library keeps on the stack of a thread
+ * is counted in. On a smaller stack the call may touch the thread's guard page,
+ * which ends the program; no call steps over that page. */
+enum vasigmon_stack {
+    VASIGMON_STACK_SPEC = 16384,         /* 16 KB: the five entries on one spec, and vasigmon_source */
+    VASIGMON_STACK_LISTS = 163840,       /* 160 KB: vasigmon_group_prefixes, vasigmon_match_lhs, vasigmon_match_rhs */
+    VASIGMON_STACK_1024_ROWS = 65536,    /* 64 KB: vasigmon_validated, with at most 1,024 rows */
+    VASIGMON_STACK_16384_ROWS = 262144,  /* 256 KB: vasigmon_validated, with at most 16,384 rows */
+    VASIGMON_STACK_ROWS = 1331200        /* 1,300 KB: vasigmon_validated, with any row list */
 };
 
 /* A spec that was read. */
@@ -238,7 +253,9 @@ typedef struct vasigmon_validation {
  * nor is `HEAD`. For each row that is not kept, in the order of the rows, `fixes`
  * holds the destination's length, its bytes and the spec's number. `out` is asked
  * first whether it is long enough, then `fixes`. Nothing is written unless both are
- * long enough. */
+ * long enough.
+ *
+ * The number of rows decides how much stack a call needs: see enum vasigmon_stack. */
 vasigmon_validation vasigmon_validated(uint64_t op, const uint8_t *specs, size_t specs_len,
                                        const uint8_t *rows, size_t rows_len,
                                        uint8_t *out, size_t out_len,

@@ -11,6 +11,7 @@
 //!   tells whether such a mapping can be used ([`Group::validated`]).
 //! - [`list`] walks the rows, conflicts and fixes of the answers.
 //! - [`raw`] has the C entries themselves, on slices, for a caller with buffers of its own.
+//! - [`stack`] states how much stack each call needs. Threads of the default size have it.
 //!
 //! What can be refused is refused when a spec is read, when a group or items are made, or
 //! when rows are validated: with a [`Refusal`], of a list with the number of the record
@@ -53,6 +54,7 @@ pub mod list;
 pub mod raw;
 mod refusal;
 mod spec;
+pub mod stack;
 mod validation;
 
 pub use group::{Group, Items};

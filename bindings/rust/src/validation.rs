@@ -26,6 +26,8 @@ impl Group {
     /// spec numbers are in the group, of at most 1,048,576 bytes. A name and an object id
     /// are always different sources.
     ///
+    /// The number of rows decides how much [stack](crate::stack) a call needs.
+    ///
     /// ```
     /// use vasigmon::{Group, Items, Operation, Validated, list};
     ///
