@@ -10,12 +10,12 @@ use lib.Dec.{leb}
 use lib.ListN.{length, take}
 use Rattle.meaning.specs.Bytes.{Text}
 use Rattle.meaning.specs.Limits.{specListBytes, specCount}
-use Rattle.meaning.specs.Spec.{accepted, refused, Spec}
+use Rattle.meaning.specs.Spec.{Answer, accepted, refused, Spec}
 use Rattle.meaning.specs.Number.{recordBytes}
 use Rattle.meaning.specs.Lists.{recordsFrom, specRecord, readList, readSpecs}
 use Rattle.meaning.specs.Prefix.{GroupPrefixes}
 use Rattle.meaning.specs.Buffers.{MeetsOne}
-use Rattle.meaning.specs.Entries.{IsGroupPrefixes}
+use Rattle.meaning.specs.Entries.{_andThen_, GroupPrefixBytes, IsGroupPrefixes}
 use Rattle.buffer.specs.declared.written.Written.{Written}
 use Rattle.buffer.specs.Answers.{refusedWith}
 use Rattle.buffer.proofs.Meets.{made-refused}
@@ -23,7 +23,7 @@ use Rattle.spec_list.specs.declared.Group.{Group}
 use Rattle.spec_list.specs.Group.{groupMeant, AllWithin, GroupRead}
 use Rattle.spec_list.proofs.Told.{GroupPassed, group-passed, group-failed}
 use Rattle.prefixes.specs.Table.{tableTexts}
-use Rattle.prefixes.specs.Group.{groupTexts, Collected, MeetsPrefixes}
+use Rattle.prefixes.specs.Group.{groupTexts, groupPrefixes, Collected, MeetsPrefixes}
 use Rattle.prefixes.proofs.Distinct.{distinct-prefixes}
 
 -- the list of a table is that of the group whose texts it holds
@@ -45,26 +45,34 @@ list-short op specs group e = go (leb op 1) (leb (length specs) specListBytes) r
     go true false h q = absurd (let z : _≡_ {A = ℕ} 0 1 = cc in omega arith)
     go false b h q = absurd (let z : _≡_ {A = ℕ} 0 1 = cc in omega arith)
 
--- the answer on a refused list
-refused-is : (op : ℕ) (specs : Text) (n : ℕ) (r : Option ℕ) → readSpecs op specs ≡ refused n r → IsGroupPrefixes op specs (refused n r)
-unfolding IsGroupPrefixes
-refused-is op specs n r e = rw e refl
+-- the answer on a refused list, and on an accepted one
+refused-is : (op : ℕ) (specs : Text) (n : ℕ) (r : Option ℕ) → readSpecs op specs ≡ refused n r → groupPrefixes op specs ≡ refused n r
+unfolding groupPrefixes
+refused-is op specs n r e = rw e
 
--- and on an accepted one
-accepted-is : (op : ℕ) (specs : Text) (group : List Spec) → readSpecs op specs ≡ accepted group → IsGroupPrefixes op specs (accepted (some (recordBytes (groupTexts op group)) ∷ []))
-unfolding IsGroupPrefixes
-accepted-is op specs group e = rw e (groupTexts op group, texts-are op group, refl)
+accepted-is : (op : ℕ) (specs : Text) (group : List Spec) → readSpecs op specs ≡ accepted group → groupPrefixes op specs ≡ accepted (some (recordBytes (groupTexts op group)) ∷ [])
+unfolding groupPrefixes
+accepted-is op specs group e = rw e
+
+-- it is the group's prefix list
+pub prefixes-are : (op : ℕ) (specs : Text) → IsGroupPrefixes op specs (groupPrefixes op specs)
+unfolding IsGroupPrefixes groupPrefixes
+prefixes-are op specs = go (readSpecs op specs)
+  where
+    go : (a : Answer (List Spec)) → GroupPrefixBytes op a (a andThen λ group. accepted (some (recordBytes (groupTexts op group)) ∷ []))
+    go (refused n r) = refl
+    go (accepted group) = (groupTexts op group, texts-are op group, refl)
+
+-- so a call that answers it does what document 01 says
+pub prefixes-meet : (op : ℕ) (specs entry exit : Text) (refusal recordNumber size : ℕ) → MeetsOne (groupPrefixes op specs) entry exit refusal recordNumber size → MeetsPrefixes op specs entry exit refusal recordNumber size
+prefixes-meet op specs entry exit refusal recordNumber size m = record { answer = groupPrefixes op specs; is = prefixes-are op specs; meets = m }
 
 module _ (op : ℕ) (specs : Text) (g : Group) (r : GroupRead specs g (readSpecs op specs)) (entry : Text) where
   -- a refused list leaves the buffer as it was
-  pub group-refused : (g .refusal ≡ 0 → ⊥) → (w : Written) → w ≡ refusedWith (g .refusal) (g .«record») → MeetsPrefixes op specs entry entry (w .refusal) (w .«record») (w .length)
+  pub group-refused : (g .refusal ≡ 0 → ⊥) → (w : Written) → w ≡ refusedWith (g .refusal) (g .«record») → MeetsOne (groupPrefixes op specs) entry entry (w .refusal) (w .«record») (w .length)
   group-refused z w e =
       let f = group-failed specs g (readSpecs op specs) r z in
-      record {
-        answer = refused (g .refusal) (f .carried);
-        is = refused-is op specs (g .refusal) (f .carried) (f .answer);
-        meets = made-refused (refused (g .refusal) (f .carried)) entry (g .refusal) (f .carried) (g .«record») w refl (f .number) e;
-      }
+      made-refused (groupPrefixes op specs) entry (g .refusal) (f .carried) (g .«record») w (refused-is op specs (g .refusal) (f .carried) (f .answer)) (f .number) e
 
   module _ (z : g .refusal ≡ 0) where
     passed : GroupPassed specs g (readSpecs op specs)
@@ -83,10 +91,5 @@ module _ (op : ℕ) (specs : Text) (g : Group) (r : GroupRead specs g (readSpecs
     group-short = list-short op specs (passed .members) (passed .answer)
 
     -- its texts are its prefix list
-    pub group-accepted : (exit : Text) (a b c : ℕ) → MeetsOne (accepted (some (recordBytes (groupTexts op (groupMeant specs (take (g .count) (g .specs))))) ∷ [])) entry exit a b c → MeetsPrefixes op specs entry exit a b c
-    group-accepted exit a b c m =
-        record {
-          answer = accepted (some (recordBytes (groupTexts op (passed .members))) ∷ []);
-          is = accepted-is op specs (passed .members) (passed .answer);
-          meets = rw (passed .is .means) at m;
-        }
+    pub group-accepted : (exit : Text) (a b c : ℕ) → MeetsOne (accepted (some (recordBytes (groupTexts op (groupMeant specs (take (g .count) (g .specs))))) ∷ [])) entry exit a b c → MeetsOne (groupPrefixes op specs) entry exit a b c
+    group-accepted exit a b c m = rw (accepted-is op specs (passed .members) (passed .answer)) (rw (passed .is .means) at m)

@@ -13,7 +13,7 @@ ghost use Rattle.expand.specs.Yields.{yieldMeant, YieldWithin};
 ghost use Rattle.spec_list.specs.Group.{groupMeant, AllWithin};
 ghost use Rattle.prefixes.specs.Table.{tableTexts, Entries, Entered};
 ghost use Rattle.frames.specs.Frames.{longestFrame};
-ghost use Rattle.prefixes.specs.Group.{groupTexts, textsMost, tableRoom, fewSpecs, shortList, Collected, MeetsPrefixes};
+ghost use Rattle.prefixes.specs.Group.{groupTexts, groupPrefixes, textsMost, tableRoom, fewSpecs, shortList, Collected};
 
 mod entry;
 mod table;
@@ -218,9 +218,9 @@ fn list_group(
     list_few(op, specs, group, n, out)
 }
 
-// The prefix list of the group that a spec list holds, for an operation, 0 fetch or 1 push.
+// The prefix list of the group that a spec list holds, in first-seen order, for an operation, 0 fetch or 1 push.
 pub fn group_prefixes(op: u64, specs: &[u8], out: &mut [u8]) -> Written
-    ensures { λ w. ⌜ MeetsPrefixes op (now (specs .entry)) (now (out .entry)) (now (out .exit)) (w .refusal) (w .record) (w .length) ⌝ }
+    ensures { λ w. ⌜ MeetsOne (groupPrefixes op (now (specs .entry))) (now (out .entry)) (now (out .exit)) (w .refusal) (w .record) (w .length) ⌝ }
 {
     let g = read_specs(op, specs);
     if g.refusal != 0 {

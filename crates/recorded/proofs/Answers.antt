@@ -1,20 +1,20 @@
 -- A whole answer, and a whole record, from their fields. Assumes nothing.
-use Prim.Native.Nat.{ℕ, _+_, _-_, _*_, _/_, _%_, _≤_, _<_}
+use Prim.Native.Nat.{ℕ, suc, _+_, _-_, _*_, _/_, _%_, _≤_, _<_}
 use native.Mathlib.Omega.{arith}
 use mathlib.Core.Path.{_≡_, refl, sym, ap, _∙_}
-use mathlib.Core.Bool.{Bool, true}
-use mathlib.Core.List.{[], _∷_, _++_, append-nil}
+use mathlib.Core.Bool.{Bool, true, false, false≢true}
+use mathlib.Core.Logic.{_↔_}
+use mathlib.Core.List.{[], _∷_, _++_}
 use mathlib.Core.Option.{Option, none, some}
-use borrow.Author.Tests.{eqb-true}
 use lib.Dec.{eqb}
-use lib.ListN.{length, getD, take, drop, take-append-drop, length-take, length-drop}
-use lib.Seq.{drop-drop}
+use lib.ListN.{length, getD, take, drop, take-append-drop, length-append, length-take, length-drop}
+use lib.Seq.{drop-drop, take-at, drop-at}
 use Rattle.meaning.specs.Bytes.{Text, bytes, same}
 use Rattle.meaning.specs.Spec.{accepted, refused, Spec, readSpec}
 use Rattle.meaning.specs.Instruction.{instruction, canonicalText}
 use Rattle.meaning.specs.Prefix.{namePrefix, prefix, prefixOf, expandPrefixes}
-use Rattle.promises.proofs.Laws.{same-is}
-use Rattle.text.proofs.Rests.{rest-cons, rest-end, rest-part}
+use Rattle.promises.proofs.Laws.{same-is, same-refl}
+use Rattle.text.proofs.Rests.{rest-cons, rest-part}
 use Rattle.parse.specs.declared.types.Side.{Side}
 use Rattle.parse.specs.declared.types.Side.the-variants.{Absent, Part, Head}
 use Rattle.parse.specs.declared.Parsed.{Parsed}
@@ -33,10 +33,10 @@ use Rattle.refspec.specs.Prefixes.{remotePlace, prefixAt, prefixPlace, prefixed
 use Rattle.refspec.proofs.Instructions.{instruction-meant}
 use Rattle.refspec.proofs.Fronts.{IsFront, prefix-front, prefix-meant, remote-meant, remote-within}
 use Rattle.recorded.specs.declared.field.Next.{Next}
-use Rattle.recorded.specs.declared.field.Next.the-variants.{At}
+use Rattle.recorded.specs.declared.field.Next.the-variants.{At, Differs}
 use Rattle.recorded.specs.Record.{sized, flagByte, kindByte, forceByte, instructionBytes, prefixBytes, prefixesBytes, answerBytes, answerRecord, IsRecord}
-use Rattle.recorded.specs.Field.{Stands, Found, Reads, Instructs}
-use Rattle.recorded.proofs.Fields.{found-at, found-both}
+use Rattle.recorded.specs.Field.{fieldAt, Reads, Instructs}
+use Rattle.recorded.proofs.Fields.{field-within, field-both, field-then, field-last, field-first, field-unlike, field-alone}
 
 -- ---- the instruction
 
@@ -47,28 +47,32 @@ module _ (i : Instruction) (t : Text) (r : ℕ) (src dst : Side) (f : Bool) wher
   pub force-matching : i ≡ PushMatching src dst f → r ≡ flagByte f → r ≡ forceByte (instructionMeant t i)
   force-matching e h = rw e h
 
-pub instruction-found : (s : Text) (at : ℕ) (i : Instruction) (k f : ℕ) → ((t : Text) → k ≡ kindByte (instructionMeant t i)) → ((t : Text) → f ≡ forceByte (instructionMeant t i)) → (r : Next) → Found s at (1 ∷ k ∷ f ∷ []) r → (t : Text) → Found s at (instructionBytes (instructionMeant t i)) r
+pub instruction-found : (s : Text) (at : ℕ) (i : Instruction) (k f : ℕ) → ((t : Text) → k ≡ kindByte (instructionMeant t i)) → ((t : Text) → f ≡ forceByte (instructionMeant t i)) → (r : Next) → r ≡ fieldAt s at (1 ∷ k ∷ f ∷ []) → (t : Text) → r ≡ fieldAt s at (instructionBytes (instructionMeant t i))
 instruction-found s at i k f ek ef r h t = rw (← ek t, ← ef t) h
 
 -- ---- the prefix
 
 module _ (s : Text) (at : ℕ) where
   -- a prefix that is there
-  pub found-present : (want : Text) (r : Next) (m : ℕ) → Found s at (1 ∷ []) r → r ≡ At m → (r₂ : Next) → Found s m (sized want) r₂ → Found s at (1 ∷ sized want) r₂
-  found-present want r m f e r₂ g = found-both s at (1 ∷ []) (sized want) m (found-at s at (1 ∷ []) r m f e) r₂ g
+  module _ (want : Text) (r : Next) (e : r ≡ fieldAt s at (1 ∷ [])) where
+    pub found-present : (m : ℕ) → r ≡ At m → (r₂ : Next) → r₂ ≡ fieldAt s m (sized want) → r₂ ≡ fieldAt s at (1 ∷ sized want)
+    found-present m q r₂ f = field-both s at (1 ∷ []) r e m q (sized want) r₂ f
 
-  pub found-part : (t : Text) (start n : ℕ) (r : Next) → Found s at (1 ∷ sized (take (start + n - start) (drop start t))) r → Found s at (1 ∷ sized (partAt t start n)) r
+    pub found-no-mark : r ≡ Differs → Differs ≡ fieldAt s at (1 ∷ sized want)
+    found-no-mark q = field-first s at (1 ∷ []) r e q (sized want)
+
+  pub found-part : (t : Text) (start n : ℕ) (r : Next) → r ≡ fieldAt s at (1 ∷ sized (take (start + n - start) (drop start t))) → r ≡ fieldAt s at (1 ∷ sized (partAt t start n))
   found-part t start n r f = rw (part-of t start n) at f
 
   -- the arms of a `match` on a side
   module _ (t : Text) (side : Side) (r : Next) where
-    pub found-absent-side : side ≡ Absent → Found s at (0 ∷ []) r → Found s at (prefixBytes (sideMeant t side)) r
+    pub found-absent-side : side ≡ Absent → r ≡ fieldAt s at (0 ∷ []) → r ≡ fieldAt s at (prefixBytes (sideMeant t side))
     found-absent-side e f = rw e f
 
-    pub found-part-side : (start n : ℕ) → side ≡ Part start n → Found s at (1 ∷ sized (partAt t start n)) r → Found s at (prefixBytes (sideMeant t side)) r
+    pub found-part-side : (start n : ℕ) → side ≡ Part start n → r ≡ fieldAt s at (1 ∷ sized (partAt t start n)) → r ≡ fieldAt s at (prefixBytes (sideMeant t side))
     found-part-side start n e f = rw e f
 
-    pub found-head-side : side ≡ Head → Found s at (1 ∷ sized (bytes "HEAD")) r → Found s at (prefixBytes (sideMeant t side)) r
+    pub found-head-side : side ≡ Head → r ≡ fieldAt s at (1 ∷ sized (bytes "HEAD")) → r ≡ fieldAt s at (prefixBytes (sideMeant t side))
     found-head-side e f = rw e f
 
 -- a prefix stands within the spec
@@ -85,6 +89,15 @@ place-within t Head w = tt
 record PrefixRead (op : ℕ) (t : Text) (side : Side) : Type 0 where
   within : Within (length t) side
   is : (s : Spec) → readSpec op t ≡ accepted s → sideMeant t side ≡ prefix op s
+
+-- a refusal, of a spec that was not accepted
+pub no-prefix : (op : ℕ) (t : Text) (p : Prefixed) → p ≡ prefixedPlaces op t → (n : ℕ) → p ≡ prefixed-as.Refused n → (told : Text) (at : ℕ) (s : Spec) → readSpec op t ≡ accepted s → Differs ≡ fieldAt told at (prefixBytes (prefix op s))
+unfolding prefixedPlaces
+no-prefix op t p ep n e told at s h = absurd (go (parsed op t) refl (sym e ∙ ep))
+  where
+    go : (a : Parsed) → a ≡ parsed op t → prefixed-as.Refused n ≡ prefixedBy op t a → ⊥
+    go (reading.Refused m) ea q = let g = read-refused op t (reading.Refused m) ea m refl in let z : _≡_ {A = ℕ} 0 1 = cc in omega arith
+    go (reading.Spec r) ea q = let z : _≡_ {A = ℕ} 0 1 = cc in omega arith
 
 module _ (op : ℕ) (t : Text) (p : Prefixed) (ep : p ≡ prefixedPlaces op t) (side : Side) (e : p ≡ prefixed-as.Prefix side) where
   prefix-read : PrefixRead op t side
@@ -106,60 +119,78 @@ module _ (op : ℕ) (t : Text) (p : Prefixed) (ep : p ≡ prefixedPlaces op t) (
   pub prefix-within : Within (length t) side
   prefix-within = prefix-read .within
 
-  pub found-prefix : (s : Text) (at : ℕ) (r : Next) → Found s at (prefixBytes (sideMeant t side)) r → (spec : Spec) → readSpec op t ≡ accepted spec → Found s at (prefixBytes (prefix op spec)) r
+  pub found-prefix : (s : Text) (at : ℕ) (r : Next) → r ≡ fieldAt s at (prefixBytes (sideMeant t side)) → (spec : Spec) → readSpec op t ≡ accepted spec → r ≡ fieldAt s at (prefixBytes (prefix op spec))
   found-prefix s at r f spec h = rw (prefix-read .is spec h) at f
 
 -- ---- the answer
 
 -- a spec that is refused
-pub refused-whole : (s : Text) (at : ℕ) (b : Bool) → b ≡ same (take (length s - at) (drop at s)) (0 ∷ []) → b ≡ true → drop at s ≡ 0 ∷ []
-refused-whole s at b e t = same-is (drop at s) (0 ∷ []) (sym (rw (rest-part s at) at e) ∙ t)
-
--- a field, and what follows it to the end
-then : (told : Text) (at : ℕ) (a rest : Text) (n : ℕ) → Stands told at a n → drop n told ≡ rest → drop at told ≡ a ++ rest
-then told at a rest n s e = s .is ∙ ap (λ (x : Text). a ++ x) e
+pub refused-whole : (s : Text) (at : ℕ) (b : Bool) → b ≡ same (0 ∷ []) (take (length s - at) (drop at s)) → b ≡ same (0 ∷ []) (drop at s)
+refused-whole s at b e = rw (rest-part s at) at e
 
 -- fields of a spec that is accepted, and what follows them
-module _ (op : ℕ) (t : Text) (told : Text) (at : ℕ) (r : Next) (n : ℕ) where
-  stands-for : (f : Spec → Text) → ((s : Spec) → readSpec op t ≡ accepted s → Found told at (f s) r) → r ≡ At n → (s : Spec) → readSpec op t ≡ accepted s → Stands told at (f s) n
-  stands-for f h e s q = found-at told at (f s) r n (h s q) e
+module _ (op : ℕ) (t : Text) (told : Text) (at : ℕ) (r : Next) where
+  -- what is said of the one spec that is read
+  module _ (f : Spec → Text) (h : (s : Spec) → readSpec op t ≡ accepted s → r ≡ fieldAt told at (f s)) where
+    here-within : Reads op t → at ≤ length told → (n : ℕ) → r ≡ At n → n ≤ length told
+    here-within w g n e = field-within told at (f (w .spec)) g r n (h (w .spec) (w .reads)) e
 
-  pub canonical-within : Reads op t → ((s : Spec) → readSpec op t ≡ accepted s → Found told at (sized (canonicalText op s)) r) → r ≡ At n → n ≤ length told
-  canonical-within w h e = stands-for (λ s. sized (canonicalText op s)) h e (w .spec) (w .reads) .within
+    here-then : (n : ℕ) → r ≡ At n → (b : Bool) (rest : Spec → Text) → ((s : Spec) → readSpec op t ≡ accepted s → b ≡ same (rest s) (drop n told)) → (s : Spec) → readSpec op t ≡ accepted s → b ≡ same (f s ++ rest s) (drop at told)
+    here-then n e b rest g s q = field-then told at (f s) r (h s q) n e b (rest s) (g s q)
 
-  pub prefix-field-within : Reads op t → ((s : Spec) → readSpec op t ≡ accepted s → Found told at (prefixBytes (prefix op s)) r) → r ≡ At n → n ≤ length told
-  prefix-field-within w h e = stands-for (λ s. prefixBytes (prefix op s)) h e (w .spec) (w .reads) .within
+    here-unlike : r ≡ Differs → (rest : Spec → Text) → (s : Spec) → readSpec op t ≡ accepted s → false ≡ same (f s ++ rest s) (drop at told)
+    here-unlike e rest s q = field-unlike told at (f s) r (h s q) e (rest s)
 
-  pub prefixes-end : ((s : Spec) → readSpec op t ≡ accepted s → Found told at (prefixesBytes (expandPrefixes op s)) r) → r ≡ At n
-      → (s : Spec) → readSpec op t ≡ accepted s → eqb n (length told) ≡ true → drop at told ≡ prefixesBytes (expandPrefixes op s)
-  prefixes-end h e s q y =
-      let none-left : drop n told ≡ [] = rest-end told n (omega (arith, eqb-true n (length told) y)) in
-      then told at (prefixesBytes (expandPrefixes op s)) [] n (stands-for (λ s. prefixesBytes (expandPrefixes op s)) h e s q) none-left ∙ append-nil (prefixesBytes (expandPrefixes op s))
+  module _ (h : (s : Spec) → readSpec op t ≡ accepted s → r ≡ fieldAt told at (sized (canonicalText op s))) where
+    pub canonical-within : Reads op t → at ≤ length told → (n : ℕ) → r ≡ At n → n ≤ length told
+    canonical-within = here-within (λ s. sized (canonicalText op s)) h
 
-  module _ (b : Bool) where
-    pub prefix-then : ((s : Spec) → readSpec op t ≡ accepted s → Found told at (prefixBytes (prefix op s)) r) → r ≡ At n
-        → ((s : Spec) → readSpec op t ≡ accepted s → b ≡ true → drop n told ≡ prefixesBytes (expandPrefixes op s))
-        → (s : Spec) → readSpec op t ≡ accepted s → b ≡ true → drop at told ≡ prefixBytes (prefix op s) ++ prefixesBytes (expandPrefixes op s)
-    prefix-then h e f s q y = then told at (prefixBytes (prefix op s)) (prefixesBytes (expandPrefixes op s)) n (stands-for (λ s. prefixBytes (prefix op s)) h e s q) (f s q y)
+    pub canonical-then : (n : ℕ) → r ≡ At n → (b : Bool) → ((s : Spec) → readSpec op t ≡ accepted s → b ≡ same (prefixBytes (prefix op s) ++ prefixesBytes (expandPrefixes op s)) (drop n told))
+        → (s : Spec) → readSpec op t ≡ accepted s → b ≡ same (sized (canonicalText op s) ++ (prefixBytes (prefix op s) ++ prefixesBytes (expandPrefixes op s))) (drop at told)
+    canonical-then n e b = here-then (λ s. sized (canonicalText op s)) h n e b (λ s. prefixBytes (prefix op s) ++ prefixesBytes (expandPrefixes op s))
 
-    pub canonical-then : ((s : Spec) → readSpec op t ≡ accepted s → Found told at (sized (canonicalText op s)) r) → r ≡ At n
-        → ((s : Spec) → readSpec op t ≡ accepted s → b ≡ true → drop n told ≡ prefixBytes (prefix op s) ++ prefixesBytes (expandPrefixes op s))
-        → (s : Spec) → readSpec op t ≡ accepted s → b ≡ true → drop at told ≡ sized (canonicalText op s) ++ (prefixBytes (prefix op s) ++ prefixesBytes (expandPrefixes op s))
-    canonical-then h e f s q y = then told at (sized (canonicalText op s)) (prefixBytes (prefix op s) ++ prefixesBytes (expandPrefixes op s)) n (stands-for (λ s. sized (canonicalText op s)) h e s q) (f s q y)
+    pub canonical-unlike : r ≡ Differs → (s : Spec) → readSpec op t ≡ accepted s → false ≡ same (sized (canonicalText op s) ++ (prefixBytes (prefix op s) ++ prefixesBytes (expandPrefixes op s))) (drop at told)
+    canonical-unlike e = here-unlike (λ s. sized (canonicalText op s)) h e (λ s. prefixBytes (prefix op s) ++ prefixesBytes (expandPrefixes op s))
+
+  module _ (h : (s : Spec) → readSpec op t ≡ accepted s → r ≡ fieldAt told at (prefixBytes (prefix op s))) where
+    pub prefix-field-within : Reads op t → at ≤ length told → (n : ℕ) → r ≡ At n → n ≤ length told
+    prefix-field-within = here-within (λ s. prefixBytes (prefix op s)) h
+
+    pub prefix-then : (n : ℕ) → r ≡ At n → (b : Bool) → ((s : Spec) → readSpec op t ≡ accepted s → b ≡ same (prefixesBytes (expandPrefixes op s)) (drop n told))
+        → (s : Spec) → readSpec op t ≡ accepted s → b ≡ same (prefixBytes (prefix op s) ++ prefixesBytes (expandPrefixes op s)) (drop at told)
+    prefix-then n e b = here-then (λ s. prefixBytes (prefix op s)) h n e b (λ s. prefixesBytes (expandPrefixes op s))
+
+    pub prefix-unlike : r ≡ Differs → (s : Spec) → readSpec op t ≡ accepted s → false ≡ same (prefixBytes (prefix op s) ++ prefixesBytes (expandPrefixes op s)) (drop at told)
+    prefix-unlike e = here-unlike (λ s. prefixBytes (prefix op s)) h e (λ s. prefixesBytes (expandPrefixes op s))
+
+  module _ (h : (s : Spec) → readSpec op t ≡ accepted s → r ≡ fieldAt told at (prefixesBytes (expandPrefixes op s))) where
+    pub prefixes-end : at ≤ length told → (n : ℕ) → r ≡ At n → (s : Spec) → readSpec op t ≡ accepted s → eqb n (length told) ≡ same (prefixesBytes (expandPrefixes op s)) (drop at told)
+    prefixes-end g n e s q = field-last told at (prefixesBytes (expandPrefixes op s)) r (h s q) n e g
+
+    pub prefixes-unlike : r ≡ Differs → (s : Spec) → readSpec op t ≡ accepted s → false ≡ same (prefixesBytes (expandPrefixes op s)) (drop at told)
+    prefixes-unlike e s q = field-alone told at (prefixesBytes (expandPrefixes op s)) r (h s q) e
 
 -- an accepted spec: its instruction, and what follows it
-module _ (told : Text) (at : ℕ) (i : Instruction) (r : Next) (n : ℕ) (f : (t : Text) → Found told at (instructionBytes (instructionMeant t i)) r) (e : r ≡ At n) where
-  pub instruction-within : n ≤ length told
-  instruction-within = found-at told at (instructionBytes (instructionMeant [] i)) r n (f []) e .within
+pub instruction-within : (told : Text) (at : ℕ) (i : Instruction) (r : Next) → r ≡ fieldAt told at (instructionBytes (instructionMeant [] i)) → at ≤ length told → (n : ℕ) → r ≡ At n → n ≤ length told
+instruction-within told at i r f g n e = field-within told at (instructionBytes (instructionMeant [] i)) g r n f e
 
-  pub instruction-then : (op : ℕ) (t : Text) (b : Bool) → Instructs op t i
-      → ((s : Spec) → readSpec op t ≡ accepted s → b ≡ true → drop n told ≡ sized (canonicalText op s) ++ (prefixBytes (prefix op s) ++ prefixesBytes (expandPrefixes op s)))
-      → b ≡ true → drop at told ≡ answerBytes op (readSpec op t)
-  instruction-then op t b w h y =
-      let s = w .accepts .spec in
-      then told at (instructionBytes (instructionMeant t i)) (sized (canonicalText op s) ++ (prefixBytes (prefix op s) ++ prefixesBytes (expandPrefixes op s))) n
-      (found-at told at (instructionBytes (instructionMeant t i)) r n (f t) e) (h s (w .accepts .reads) y)
-      ∙ rw (w .accepts .reads, w .meant)
+module _ (told : Text) (at : ℕ) (i : Instruction) (r : Next) (f : (t : Text) → r ≡ fieldAt told at (instructionBytes (instructionMeant t i))) where
+  module _ (op : ℕ) (t : Text) (w : Instructs op t i) where
+    whole : (b : Bool) → b ≡ same (instructionBytes (instructionMeant t i) ++ (sized (canonicalText op (w .accepts .spec)) ++ (prefixBytes (prefix op (w .accepts .spec)) ++ prefixesBytes (expandPrefixes op (w .accepts .spec))))) (drop at told)
+        → b ≡ same (answerBytes op (readSpec op t)) (drop at told)
+    whole b h = rw (w .accepts .reads) (rw (w .meant) at h)
+
+    pub instruction-then : (n : ℕ) → r ≡ At n → (b : Bool)
+        → ((s : Spec) → readSpec op t ≡ accepted s → b ≡ same (sized (canonicalText op s) ++ (prefixBytes (prefix op s) ++ prefixesBytes (expandPrefixes op s))) (drop n told))
+        → b ≡ same (answerBytes op (readSpec op t)) (drop at told)
+    instruction-then n e b h =
+        let s = w .accepts .spec in
+        whole b (field-then told at (instructionBytes (instructionMeant t i)) r (f t) n e b (sized (canonicalText op s) ++ (prefixBytes (prefix op s) ++ prefixesBytes (expandPrefixes op s))) (h s (w .accepts .reads)))
+
+    pub instruction-unlike : r ≡ Differs → false ≡ same (answerBytes op (readSpec op t)) (drop at told)
+    instruction-unlike e =
+        let s = w .accepts .spec in
+        whole false (field-unlike told at (instructionBytes (instructionMeant t i)) r (f t) e (sized (canonicalText op s) ++ (prefixBytes (prefix op s) ++ prefixesBytes (expandPrefixes op s))))
 
 module _ (op : ℕ) (t : Text) (q : Instructed) (eq : q ≡ instructedPlaces op t) where
   -- an instruction that is answered, and the spec that was read
@@ -173,9 +204,9 @@ module _ (op : ℕ) (t : Text) (q : Instructed) (eq : q ≡ instructedPlaces op 
           let x : i ≡ instructionPlaces op p = cc in
           record { accepts = record { spec = specMeant t p; reads = read-accepted op t (reading.Spec p) ea p refl }; meant = ap (instructionMeant t) x ∙ instruction-meant op t p }
 
-  pub answer-refused : (told : Text) (at : ℕ) (r : Bool) (n : ℕ) → q ≡ instructed-as.Refused n → (r ≡ true → drop at told ≡ 0 ∷ []) → r ≡ true → drop at told ≡ answerBytes op (readSpec op t)
+  pub answer-refused : (told : Text) (at : ℕ) (r : Bool) (n : ℕ) → q ≡ instructed-as.Refused n → r ≡ same (0 ∷ []) (drop at told) → r ≡ same (answerBytes op (readSpec op t)) (drop at told)
   unfolding instructedPlaces
-  answer-refused told at r n e f y = rw (go (parsed op t) refl (sym e ∙ eq)) (f y)
+  answer-refused told at r n e f = rw (go (parsed op t) refl (sym e ∙ eq)) f
     where
       go : (a : Parsed) → a ≡ parsed op t → instructed-as.Refused n ≡ instructedBy op a → readSpec op t ≡ refused n none
       go (reading.Refused m) ea z = let x : m ≡ n = cc in rw (← x) (read-refused op t (reading.Refused m) ea m refl)
@@ -184,18 +215,71 @@ module _ (op : ℕ) (t : Text) (q : Instructed) (eq : q ≡ instructedPlaces op 
 -- ---- the record
 
 -- the operation, the spec after its length in two bytes, and the answer
-pub record-whole : (told : Text) (op low high : ℕ) (r : Bool) → 3 ≤ length told → op ≡ getD told 0 0 → low ≡ getD told 1 0 → low < 256 → high ≡ getD told 2 0 → 3 + low + high * 256 ≤ length told
-    → (r ≡ true → drop (3 + low + high * 256) told ≡ answerBytes op (readSpec op (take (3 + low + high * 256 - 3) (drop 3 told))))
-    → r ≡ true → IsRecord told
-unfolding answerRecord sized
-record-whole told op low high r h eo el small eh room f y =
-    let n : 3 + low + high * 256 - 3 ≡ low + high * 256 = omega arith in
-    let t = take (low + high * 256) (drop 3 told) in
-    let len : length t ≡ low + high * 256 = length-take (low + high * 256) (drop 3 told) ∙ omega (arith, length-drop 3 told) in
-    let a : length t % 256 ≡ low = omega arith in
-    let b : length t / 256 ≡ high = omega arith in
-    let m : 3 + (low + high * 256) ≡ 3 + low + high * 256 = omega arith in
-    let rest : drop (low + high * 256) (drop 3 told) ≡ answerBytes op (readSpec op t) = drop-drop (low + high * 256) 3 told ∙ ap (λ (k : ℕ). drop k told) m ∙ rw n at (f y) in
-    let after : drop 3 told ≡ t ++ answerBytes op (readSpec op t) = sym (take-append-drop (low + high * 256) (drop 3 told)) ∙ ap (λ (x : Text). t ++ x) rest in
-    let is : told ≡ op ∷ low ∷ high ∷ (t ++ answerBytes op (readSpec op t)) = rest-cons told 0 (omega arith) ∙ rw (rest-cons told 1 (omega arith), rest-cons told 2 (omega arith), ← eo, ← el, ← eh) (ap (λ (x : Text). op ∷ low ∷ high ∷ x) after) in
-    record { op = op; spec = t; is = rw (a, b) is }
+module _ (told : Text) where
+  -- a record has an operation and the two bytes of a length, and then as many bytes as they tell
+  pub record RecordLong (i : IsRecord told) : Type 0 where
+    pub op-is : getD told 0 0 ≡ i .op
+    pub end-is : 3 + getD told 1 0 + getD told 2 0 * 256 ≡ 3 + length (i .spec)
+    pub after : drop 3 told ≡ i .spec ++ answerBytes (i .op) (readSpec (i .op) (i .spec))
+    pub fits : 3 + length (i .spec) ≤ length told
+
+  record-long : (i : IsRecord told) → RecordLong i
+  unfolding answerRecord sized
+  record-long i =
+      let l : length told ≡ suc (suc (suc (length (i .spec ++ answerBytes (i .op) (readSpec (i .op) (i .spec)))))) = ap length (i .is) in
+      let low : getD told 1 0 ≡ length (i .spec) % 256 = ap (λ (x : Text). getD x 1 0) (i .is) in
+      let high : getD told 2 0 ≡ length (i .spec) / 256 = ap (λ (x : Text). getD x 2 0) (i .is) in
+      record {
+        op-is = ap (λ (x : Text). getD x 0 0) (i .is);
+        end-is = omega arith;
+        after = ap (drop 3) (i .is);
+        fits = omega (arith, length-append (i .spec) (answerBytes (i .op) (readSpec (i .op) (i .spec))));
+      }
+
+  -- nothing shorter is one
+  pub record-short : length told < 3 → (false ≡ true) ↔ IsRecord told
+  record-short h = ((λ e. absurd (false≢true e)), (λ i. absurd (omega (arith, record-long i .fits))))
+
+  module _ (op low high : ℕ) (eo : op ≡ getD told 0 0) (el : low ≡ getD told 1 0) (eh : high ≡ getD told 2 0) where
+    pub record-cut : length told < 3 + low + high * 256 → (false ≡ true) ↔ IsRecord told
+    record-cut h = ((λ e. absurd (false≢true e)), (λ i. absurd (omega (arith, record-long i .fits, record-long i .end-is))))
+
+    pub record-whole : (r : Bool) → 3 ≤ length told → low < 256 → 3 + low + high * 256 ≤ length told
+        → r ≡ same (answerBytes op (readSpec op (take (3 + low + high * 256 - 3) (drop 3 told)))) (drop (3 + low + high * 256) told)
+        → (r ≡ true) ↔ IsRecord told
+    unfolding answerRecord sized
+    record-whole r h small room f = (is, tells)
+      where
+        n : ℕ
+        n = low + high * 256
+
+        t : Text
+        t = take n (drop 3 told)
+
+        less : 3 + low + high * 256 - 3 ≡ n
+        less = omega arith
+
+        sum : 3 + low + high * 256 ≡ 3 + n
+        sum = omega arith
+
+        g : r ≡ same (answerBytes op (readSpec op t)) (drop (3 + n) told)
+        g = rw (less, sum) at f
+
+        is : r ≡ true → IsRecord told
+        is y =
+            let len : length t ≡ n = length-take n (drop 3 told) ∙ omega (arith, length-drop 3 told) in
+            let a : length t % 256 ≡ low = omega arith in
+            let b : length t / 256 ≡ high = omega arith in
+            let rest : drop n (drop 3 told) ≡ answerBytes op (readSpec op t) = drop-drop n 3 told ∙ sym (same-is (answerBytes op (readSpec op t)) (drop (3 + n) told) (sym g ∙ y)) in
+            let after : drop 3 told ≡ t ++ answerBytes op (readSpec op t) = sym (take-append-drop n (drop 3 told)) ∙ ap (λ (x : Text). t ++ x) rest in
+            let all : told ≡ op ∷ low ∷ high ∷ (t ++ answerBytes op (readSpec op t)) = rest-cons told 0 (omega arith) ∙ rw (rest-cons told 1 (omega arith), rest-cons told 2 (omega arith), ← eo, ← el, ← eh) (ap (λ (x : Text). op ∷ low ∷ high ∷ x) after) in
+            record { op = op; spec = t; is = rw (a, b) all }
+
+        tells : IsRecord told → r ≡ true
+        tells i =
+            let k = record-long i in
+            let m : n ≡ length (i .spec) = omega (arith, k .end-is) in
+            let o : op ≡ i .op = eo ∙ k .op-is in
+            let u : t ≡ i .spec = rw (k .after) (take-at (i .spec) (answerBytes (i .op) (readSpec (i .op) (i .spec))) n (sym m)) in
+            let v : drop (3 + n) told ≡ answerBytes (i .op) (readSpec (i .op) (i .spec)) = sym (drop-drop n 3 told) ∙ rw (k .after) (drop-at (i .spec) (answerBytes (i .op) (readSpec (i .op) (i .spec))) n (sym m)) in
+            g ∙ rw (u, v, o) (same-refl (answerBytes (i .op) (readSpec (i .op) (i .spec))))

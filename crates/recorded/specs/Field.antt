@@ -1,9 +1,10 @@
 -- What holding a field of a record to its bytes finds.
 use Prim.Native.Nat.{ℕ, _+_, _≤_}
 use mathlib.Core.Path.{_≡_}
+use mathlib.Core.Bool.{false, cond}
 use mathlib.Core.List.{_++_}
 use lib.ListN.{length, take, drop}
-use Rattle.meaning.specs.Bytes.{Text}
+use Rattle.meaning.specs.Bytes.{Text, begins}
 use Rattle.meaning.specs.Number.{took, readText}
 use Rattle.meaning.specs.Spec.{Spec, accepted, readSpec}
 use Rattle.meaning.specs.Instruction.{instruction}
@@ -15,38 +16,38 @@ use Rattle.recorded.specs.declared.field.Next.the-variants.{At, Differs}
 use Rattle.recorded.specs.declared.list.Passed.{Passed}
 use Rattle.recorded.specs.declared.list.Passed.the-variants as passed
 
+-- these bytes looked for at a place of s: the place after them, or they are not there
+unfoldable pub fieldAt : Text → ℕ → Text → Next
+fieldAt s at want = cond (begins want (drop at s)) (At (at + length want)) Differs
+
 -- the bytes `want` stand in s from one place to another
 pub record Stands (s : Text) (at : ℕ) (want : Text) (next : ℕ) : Type 0 where
   pub is : drop at s ≡ want ++ drop next s
   pub within : next ≤ length s
 
--- where a field agrees, its bytes stand there
-abbrev pub Found : Text → ℕ → Text → Next → Type 0
-Found s at want (At next) = Stands s at want next
-Found s at want Differs = Unit {0}
-
--- a text of n bytes that agrees: it stands in both
+-- a text of n bytes stands in both
 pub record BothStand (s : Text) (at : ℕ) (list : Text) (from n next end : ℕ) : Type 0 where
   pub stands : Stands s at (sized (take n (drop from list))) next
   pub ends : end ≡ from + n
   pub within : end ≤ length list
 
--- where a text of a prefix list agrees, it stands in both
+-- what is told of n bytes at a place of a prefix list: they are a text that stands in both; or, if the list has so many, none that
+-- stands in s
 abbrev pub PassedText : Text → ℕ → Text → ℕ → ℕ → Passed → Type 0
 PassedText s at list from n (passed.To next end) = BothStand s at list from n next end
-PassedText s at list from n passed.Differs = Unit {0}
+PassedText s at list from n passed.Differs = from + n ≤ length list → begins (sized (take n (drop from list))) (drop at s) ≡ false
 
--- where a record of a prefix list agrees, it is read as a text, which stands in both
+-- a record of a prefix list is read as a text, which stands in both
 pub record BothRead (s : Text) (at : ℕ) (list : Text) (from next end : ℕ) : Type 0 where
   pub text : Text
   pub reads : readText (drop from list) ≡ took text (drop end list)
   pub stands : Stands s at (sized text) next
   pub within : end ≤ length list
 
--- where a record of a prefix list agrees
+-- what is told of the record at a place of a prefix list
 abbrev pub PassedRecord : Text → ℕ → Text → ℕ → Passed → Type 0
 PassedRecord s at list from (passed.To next end) = BothRead s at list from next end
-PassedRecord s at list from passed.Differs = Unit {0}
+PassedRecord s at list from passed.Differs = (text rest : Text) → readText (drop from list) ≡ took text rest → begins (sized text) (drop at s) ≡ false
 
 -- the spec is accepted
 pub record Reads (op : ℕ) (t : Text) : Type 0 where

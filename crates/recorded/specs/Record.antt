@@ -14,6 +14,10 @@ use Rattle.meaning.specs.Prefix.{prefix, expandPrefixes}
 unfoldable pub sized : Text → Text
 sized t = (length t % 256) ∷ (length t / 256) ∷ t
 
+-- more bytes than any text of a record has
+abbrev pub sizedRoom : ℕ
+sizedRoom = 65536
+
 -- 1 for true
 abbrev pub flagByte : Bool → ℕ
 flagByte true = 1

@@ -1,17 +1,16 @@
 // The answer of a record, after its spec.
 ghost use mathlib.Core.Path.{_≡_};
-ghost use mathlib.Core.Bool.{true};
 ghost use mathlib.Core.List.{[], _∷_, _++_};
 ghost use Prim.Native.Nat.{_+_, _≤_};
 ghost use lib.ListN.{length, drop};
-ghost use Rattle.meaning.specs.Bytes.{Text};
+ghost use Rattle.meaning.specs.Bytes.{Text, same};
 ghost use Rattle.meaning.specs.Spec.{Spec, readSpec, accepted};
 ghost use Rattle.meaning.specs.Instruction.{canonicalText};
 ghost use Rattle.meaning.specs.Prefix.{prefix as Meaning·prefix, expandPrefixes};
 ghost use Rattle.parse.specs.Places.{partAt, sideMeant, Within};
 ghost use Rattle.refspec.specs.Instructions.{instructionMeant};
-ghost use Rattle.recorded.specs.Record.{sized, flagByte, kindByte, forceByte, instructionBytes, prefixBytes, prefixesBytes, answerBytes};
-ghost use Rattle.recorded.specs.Field.{Found, Reads, Instructs};
+ghost use Rattle.recorded.specs.Record.{sized, sizedRoom, flagByte, kindByte, forceByte, instructionBytes, prefixBytes, prefixesBytes, answerBytes};
+ghost use Rattle.recorded.specs.Field.{fieldAt, Reads, Instructs};
 use super::field::Next;
 use super::field::bytes_field;
 use super::field::text_field;
@@ -88,7 +87,7 @@ fn force(i: Instruction) -> u8
 // That the spec is accepted, and its instruction.
 fn instruction_field(told: &[u8], at: usize, i: Instruction) -> Next
     requires { ⌜ at ≤ length (now told) ⌝ }
-    ensures { λ r. ⌜ ((t : Text) → Found (now (told .entry)) at (instructionBytes (instructionMeant t i)) r) ⌝ }
+    ensures { λ r. ⌜ ((t : Text) → r ≡ fieldAt (now (told .entry)) at (instructionBytes (instructionMeant t i))) ⌝ }
 {
     let three = [1, kind(i), force(i)];
     bytes_field(told, at, &three)
@@ -96,8 +95,8 @@ fn instruction_field(told: &[u8], at: usize, i: Instruction) -> Next
 
 // The canonical text.
 fn canonical_field(told: &[u8], at: usize, op: u64, spec: &[u8], scratch: &mut [u8]) -> Next
-    requires { ⌜ at ≤ length (now told) ⌝ }
-    ensures { λ r. ⌜ ((s : Spec) → readSpec op (now (spec .entry)) ≡ accepted s → Found (now (told .entry)) at (sized (canonicalText op s)) r) ⌝ }
+    requires { ⌜ (at ≤ length (now told)) × (sizedRoom ≤ length (now scratch)) ⌝ }
+    ensures { λ r. ⌜ ((s : Spec) → readSpec op (now (spec .entry)) ≡ accepted s → r ≡ fieldAt (now (told .entry)) at (sized (canonicalText op s))) ⌝ }
 {
     let w = to_bstring(op, spec, scratch);
     if w.refusal != 0 {
@@ -110,7 +109,7 @@ fn canonical_field(told: &[u8], at: usize, op: u64, spec: &[u8], scratch: &mut [
 // A prefix that is there.
 fn present_field(told: &[u8], at: usize, want: &[u8]) -> Next
     requires { ⌜ at ≤ length (now told) ⌝ }
-    ensures { λ r. ⌜ Found (now (told .entry)) at (1 ∷ sized (now (want .entry))) r ⌝ }
+    ensures { λ r. ⌜ r ≡ fieldAt (now (told .entry)) at (1 ∷ sized (now (want .entry))) ⌝ }
 {
     let one = [1];
     match bytes_field(told, at, &one) {
@@ -122,7 +121,7 @@ fn present_field(told: &[u8], at: usize, want: &[u8]) -> Next
 // No prefix.
 fn absent_field(told: &[u8], at: usize) -> Next
     requires { ⌜ at ≤ length (now told) ⌝ }
-    ensures { λ r. ⌜ Found (now (told .entry)) at (0 ∷ []) r ⌝ }
+    ensures { λ r. ⌜ r ≡ fieldAt (now (told .entry)) at (0 ∷ []) ⌝ }
 {
     let none = [0];
     bytes_field(told, at, &none)
@@ -131,7 +130,7 @@ fn absent_field(told: &[u8], at: usize) -> Next
 // A prefix that is there, as a place in the spec.
 fn part_field(told: &[u8], at: usize, spec: &[u8], start: usize, n: usize) -> Next
     requires { ⌜ (at ≤ length (now told)) × (start + n ≤ length (now spec)) ⌝ }
-    ensures { λ r. ⌜ Found (now (told .entry)) at (1 ∷ sized (partAt (now (spec .entry)) start n)) r ⌝ }
+    ensures { λ r. ⌜ r ≡ fieldAt (now (told .entry)) at (1 ∷ sized (partAt (now (spec .entry)) start n)) ⌝ }
 {
     let end = start + n;
     present_field(told, at, &spec[start..end])
@@ -140,7 +139,7 @@ fn part_field(told: &[u8], at: usize, spec: &[u8], start: usize, n: usize) -> Ne
 // A prefix.
 fn side_field(told: &[u8], at: usize, spec: &[u8], side: Side) -> Next
     requires { ⌜ (at ≤ length (now told)) × Within (length (now spec)) side ⌝ }
-    ensures { λ r. ⌜ Found (now (told .entry)) at (prefixBytes (sideMeant (now (spec .entry)) side)) r ⌝ }
+    ensures { λ r. ⌜ r ≡ fieldAt (now (told .entry)) at (prefixBytes (sideMeant (now (spec .entry)) side)) ⌝ }
 {
     match side {
         Side::Absent => absent_field(told, at),
@@ -152,7 +151,7 @@ fn side_field(told: &[u8], at: usize, spec: &[u8], side: Side) -> Next
 // The prefix of the spec.
 fn prefix_field(told: &[u8], at: usize, op: u64, spec: &[u8]) -> Next
     requires { ⌜ at ≤ length (now told) ⌝ }
-    ensures { λ r. ⌜ ((s : Spec) → readSpec op (now (spec .entry)) ≡ accepted s → Found (now (told .entry)) at (prefixBytes (Meaning·prefix op s)) r) ⌝ }
+    ensures { λ r. ⌜ ((s : Spec) → readSpec op (now (spec .entry)) ≡ accepted s → r ≡ fieldAt (now (told .entry)) at (prefixBytes (Meaning·prefix op s))) ⌝ }
 {
     match prefix(op, spec) {
         Prefixed::Prefix(side) => side_field(told, at, spec, side),
@@ -162,8 +161,8 @@ fn prefix_field(told: &[u8], at: usize, op: u64, spec: &[u8]) -> Next
 
 // The prefixes that the spec yields.
 fn prefixes_field(told: &[u8], at: usize, op: u64, spec: &[u8], scratch: &mut [u8]) -> Next
-    requires { ⌜ at ≤ length (now told) ⌝ }
-    ensures { λ r. ⌜ ((s : Spec) → readSpec op (now (spec .entry)) ≡ accepted s → Found (now (told .entry)) at (prefixesBytes (expandPrefixes op s)) r) ⌝ }
+    requires { ⌜ (at ≤ length (now told)) × (sizedRoom ≤ length (now scratch)) ⌝ }
+    ensures { λ r. ⌜ ((s : Spec) → readSpec op (now (spec .entry)) ≡ accepted s → r ≡ fieldAt (now (told .entry)) at (prefixesBytes (expandPrefixes op s))) ⌝ }
 {
     let w = expand_prefixes(op, spec, scratch);
     if w.refusal != 0 {
@@ -175,8 +174,8 @@ fn prefixes_field(told: &[u8], at: usize, op: u64, spec: &[u8], scratch: &mut [u
 
 // The prefixes, and nothing after them.
 fn prefixes_agree(told: &[u8], at: usize, op: u64, spec: &[u8], scratch: &mut [u8]) -> bool
-    requires { ⌜ (at ≤ length (now told)) × Reads op (now spec) ⌝ }
-    ensures { λ r. ⌜ ((s : Spec) → readSpec op (now (spec .entry)) ≡ accepted s → r ≡ true → drop at (now (told .entry)) ≡ prefixesBytes (expandPrefixes op s)) ⌝ }
+    requires { ⌜ (at ≤ length (now told)) × Reads op (now spec) × (sizedRoom ≤ length (now scratch)) ⌝ }
+    ensures { λ r. ⌜ ((s : Spec) → readSpec op (now (spec .entry)) ≡ accepted s → r ≡ same (prefixesBytes (expandPrefixes op s)) (drop at (now (told .entry)))) ⌝ }
 {
     match prefixes_field(told, at, op, spec, scratch) {
         Next::At(end) => end == told.len(),
@@ -186,8 +185,8 @@ fn prefixes_agree(told: &[u8], at: usize, op: u64, spec: &[u8], scratch: &mut [u
 
 // The prefix, and what follows it.
 fn prefix_agrees(told: &[u8], at: usize, op: u64, spec: &[u8], scratch: &mut [u8]) -> bool
-    requires { ⌜ (at ≤ length (now told)) × Reads op (now spec) ⌝ }
-    ensures { λ r. ⌜ ((s : Spec) → readSpec op (now (spec .entry)) ≡ accepted s → r ≡ true → drop at (now (told .entry)) ≡ prefixBytes (Meaning·prefix op s) ++ prefixesBytes (expandPrefixes op s)) ⌝ }
+    requires { ⌜ (at ≤ length (now told)) × Reads op (now spec) × (sizedRoom ≤ length (now scratch)) ⌝ }
+    ensures { λ r. ⌜ ((s : Spec) → readSpec op (now (spec .entry)) ≡ accepted s → r ≡ same (prefixBytes (Meaning·prefix op s) ++ prefixesBytes (expandPrefixes op s)) (drop at (now (told .entry)))) ⌝ }
 {
     match prefix_field(told, at, op, spec) {
         Next::At(next) => prefixes_agree(told, next, op, spec, scratch),
@@ -197,8 +196,8 @@ fn prefix_agrees(told: &[u8], at: usize, op: u64, spec: &[u8], scratch: &mut [u8
 
 // The canonical text, and what follows it.
 fn canonical_agrees(told: &[u8], at: usize, op: u64, spec: &[u8], scratch: &mut [u8]) -> bool
-    requires { ⌜ (at ≤ length (now told)) × Reads op (now spec) ⌝ }
-    ensures { λ r. ⌜ ((s : Spec) → readSpec op (now (spec .entry)) ≡ accepted s → r ≡ true → drop at (now (told .entry)) ≡ sized (canonicalText op s) ++ (prefixBytes (Meaning·prefix op s) ++ prefixesBytes (expandPrefixes op s))) ⌝ }
+    requires { ⌜ (at ≤ length (now told)) × Reads op (now spec) × (sizedRoom ≤ length (now scratch)) ⌝ }
+    ensures { λ r. ⌜ ((s : Spec) → readSpec op (now (spec .entry)) ≡ accepted s → r ≡ same (sized (canonicalText op s) ++ (prefixBytes (Meaning·prefix op s) ++ prefixesBytes (expandPrefixes op s))) (drop at (now (told .entry)))) ⌝ }
 {
     match canonical_field(told, at, op, spec, scratch) {
         Next::At(next) => prefix_agrees(told, next, op, spec, scratch),
@@ -215,8 +214,8 @@ fn accepted_agrees(
     i: Instruction,
     scratch: &mut [u8],
 ) -> bool
-    requires { ⌜ (at ≤ length (now told)) × Instructs op (now spec) i ⌝ }
-    ensures { λ r. ⌜ (r ≡ true → drop at (now (told .entry)) ≡ answerBytes op (readSpec op (now (spec .entry)))) ⌝ }
+    requires { ⌜ (at ≤ length (now told)) × Instructs op (now spec) i × (sizedRoom ≤ length (now scratch)) ⌝ }
+    ensures { λ r. ⌜ r ≡ same (answerBytes op (readSpec op (now (spec .entry)))) (drop at (now (told .entry))) ⌝ }
 {
     match instruction_field(told, at, i) {
         Next::At(next) => canonical_agrees(told, next, op, spec, scratch),
@@ -227,10 +226,10 @@ fn accepted_agrees(
 // The answer to a spec that is refused.
 fn refused_agrees(told: &[u8], at: usize) -> bool
     requires { ⌜ at ≤ length (now told) ⌝ }
-    ensures { λ r. ⌜ (r ≡ true → drop at (now (told .entry)) ≡ 0 ∷ []) ⌝ }
+    ensures { λ r. ⌜ r ≡ same (0 ∷ []) (drop at (now (told .entry))) ⌝ }
 {
     let none = [0];
-    compare::same(&told[at..], &none)
+    compare::same(&none, &told[at..])
 }
 
 // The answer, from `at` to the record's end.
@@ -241,8 +240,8 @@ pub(crate) fn answer_agrees(
     spec: &[u8],
     scratch: &mut [u8],
 ) -> bool
-    requires { ⌜ at ≤ length (now told) ⌝ }
-    ensures { λ r. ⌜ (r ≡ true → drop at (now (told .entry)) ≡ answerBytes op (readSpec op (now (spec .entry)))) ⌝ }
+    requires { ⌜ (at ≤ length (now told)) × (sizedRoom ≤ length (now scratch)) ⌝ }
+    ensures { λ r. ⌜ r ≡ same (answerBytes op (readSpec op (now (spec .entry)))) (drop at (now (told .entry))) ⌝ }
 {
     match instruction(op, spec) {
         Instructed::To(i) => accepted_agrees(told, at, op, spec, i, scratch),

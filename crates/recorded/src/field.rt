@@ -1,9 +1,9 @@
 // One field of a record, held to what it should be.
 ghost use mathlib.Core.Path.{_≡_};
-ghost use Prim.Native.Nat.{_/_, _%_, _<_, _≤_};
+ghost use Prim.Native.Nat.{_<_, _≤_};
 ghost use lib.ListN.{length};
 ghost use Rattle.recorded.specs.Record.{sized};
-ghost use Rattle.recorded.specs.Field.{Found};
+ghost use Rattle.recorded.specs.Field.{fieldAt};
 
 // Where the next field begins, or that this one differs.
 pub enum Next {
@@ -18,25 +18,10 @@ pub fn wide(b: u8) -> usize
     b as usize
 }
 
-// The lower byte of a length.
-fn low(n: usize) -> u8
-    ensures { λ r. ⌜ r ≡ n % 256 ⌝ }
-{
-    (n % 256) as u8
-}
-
-// The upper byte of a length.
-fn high(n: usize) -> u8
-    requires { ⌜ n < 65536 ⌝ }
-    ensures { λ r. ⌜ r ≡ n / 256 ⌝ }
-{
-    (n / 256) as u8
-}
-
 // These bytes.
 pub(crate) fn bytes_field(told: &[u8], at: usize, want: &[u8]) -> Next
     requires { ⌜ at ≤ length (now told) ⌝ }
-    ensures { λ r. ⌜ Found (now (told .entry)) at (now (want .entry)) r ⌝ }
+    ensures { λ r. ⌜ r ≡ fieldAt (now (told .entry)) at (now (want .entry)) ⌝ }
 {
     if compare::begins(&told[at..], want) {
         return Next::At(at + want.len());
@@ -47,15 +32,14 @@ pub(crate) fn bytes_field(told: &[u8], at: usize, want: &[u8]) -> Next
 // This text, its length before it.
 pub fn text_field(told: &[u8], at: usize, want: &[u8]) -> Next
     requires { ⌜ at ≤ length (now told) ⌝ }
-    ensures { λ r. ⌜ Found (now (told .entry)) at (sized (now (want .entry))) r ⌝ }
+    ensures { λ r. ⌜ r ≡ fieldAt (now (told .entry)) at (sized (now (want .entry))) ⌝ }
 {
-    let n = want.len();
-    if 65536 <= n {
+    if told.len() - at < 2 {
         return Next::Differs;
     }
-    let size = [low(n), high(n)];
-    match bytes_field(told, at, &size) {
-        Next::At(next) => bytes_field(told, next, want),
-        Next::Differs => Next::Differs,
+    let n = wide(told[at]) + wide(told[at + 1]) * 256;
+    if want.len() != n {
+        return Next::Differs;
     }
+    bytes_field(told, at + 2, want)
 }

@@ -1,8 +1,10 @@
 // A recorded answer to one spec, held to ours, field by field. specs/Record.antt has the record's form.
 ghost use mathlib.Core.Path.{_≡_};
 ghost use mathlib.Core.Bool.{true};
-ghost use Prim.Native.Nat.{_+_, _*_, _/_, _<_};
-ghost use Rattle.recorded.specs.Record.{IsRecord};
+ghost use mathlib.Core.Logic.{_↔_};
+ghost use Prim.Native.Nat.{_≤_};
+ghost use lib.ListN.{length};
+ghost use Rattle.recorded.specs.Record.{sizedRoom, IsRecord};
 
 mod answer;
 pub mod field;
@@ -11,9 +13,10 @@ mod list;
 use answer::answer_agrees;
 use field::wide;
 
-// The record tells what we answer to the spec that it names. `scratch` takes our texts; in one too short nothing agrees.
+// The record tells what we answer to the spec that it names. `scratch` has room for our texts; what it holds afterwards is left open.
 pub fn agrees(told: &[u8], scratch: &mut [u8]) -> bool
-    ensures { λ r. ⌜ (r ≡ true → IsRecord (now (told .entry))) ⌝ }
+    requires { ⌜ sizedRoom ≤ length (now scratch) ⌝ }
+    ensures { λ r. ⌜ (r ≡ true) ↔ IsRecord (now (told .entry)) ⌝ }
 {
     if told.len() < 3 {
         return false;

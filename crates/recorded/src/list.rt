@@ -4,13 +4,13 @@ ghost use mathlib.Core.List.{List};
 ghost use Prim.Native.Nat.{_≤_};
 ghost use lib.ListN.{length};
 ghost use Rattle.meaning.specs.Bytes.{Text};
+ghost use Rattle.meaning.specs.Limits.{largestNumber};
 ghost use Rattle.meaning.specs.Number.{recordBytes};
 ghost use Rattle.recorded.specs.Record.{prefixesBytes};
-ghost use Rattle.recorded.specs.Field.{Found, PassedText, PassedRecord};
+ghost use Rattle.recorded.specs.Field.{fieldAt, PassedText, PassedRecord};
 use super::field::Next;
 use super::field::text_field;
 use super::field::wide;
-use limits::LARGEST_NUMBER;
 use number::Number;
 
 // A prefix that agrees, with the places of the next field and of the list's next record; or one that differs.
@@ -47,12 +47,10 @@ fn prefix_passes(told: &[u8], next: usize, list: &[u8], at: usize) -> Passed
 
 // As many prefixes as the record says, and no more in the list.
 pub(crate) fn list_field(told: &[u8], start: usize, list: &[u8]) -> Next
-    ensures { λ r. ⌜ ((l : List Text) → now (list .entry) ≡ recordBytes l → Found (now (told .entry)) start (prefixesBytes l) r) ⌝ }
+    requires { ⌜ length (now list) ≤ largestNumber ⌝ }
+    ensures { λ r. ⌜ ((l : List Text) → now (list .entry) ≡ recordBytes l → r ≡ fieldAt (now (told .entry)) start (prefixesBytes l)) ⌝ }
 {
     if told.len() <= start {
-        return Next::Differs;
-    }
-    if LARGEST_NUMBER < list.len() {
         return Next::Differs;
     }
     let many = wide(told[start]);

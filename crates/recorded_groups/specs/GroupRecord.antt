@@ -8,22 +8,20 @@ use Rattle.meaning.specs.Spec.{Spec, accepted}
 use Rattle.meaning.specs.Lists.{readSpecs, readItems}
 use Rattle.meaning.specs.Rows.{rowListOf}
 use Rattle.meaning.specs.Listing.{forwardRows, reverseRows}
-use Rattle.meaning.specs.Prefix.{GroupPrefixes}
+use Rattle.prefixes.specs.Group.{groupTexts}
 use Rattle.recorded.specs.Record.{sized}
 
 -- an answer: the rows of both listings, and the prefix list
 abbrev pub answerTexts : Text → Text → Text → Text
 answerTexts rows back prefixes = sized rows ++ (sized back ++ sized prefixes)
 
--- these bytes are an answer to a spec list and an item list that are accepted, with the group's prefixes in some order
+-- these bytes are the answer to a spec list and an item list that are accepted, with the group's prefixes in first-seen order
 pub record IsGroupAnswer (op : ℕ) (specs items bytes : Text) : Type 0 where
   pub group : List Spec
   pub names : List Text
-  pub prefixes : List Text
   pub reads-specs : readSpecs op specs ≡ accepted group
   pub reads-items : readItems items ≡ accepted names
-  pub lists : GroupPrefixes op group prefixes
-  pub is : bytes ≡ answerTexts (rowListOf (forwardRows group names)) (rowListOf (reverseRows group names)) (recordBytes prefixes)
+  pub is : bytes ≡ answerTexts (rowListOf (forwardRows group names)) (rowListOf (reverseRows group names)) (recordBytes (groupTexts op group))
 
 -- these bytes are the record of some group: the operation, both lists, and the answer
 pub record IsGroupRecord (bytes : Text) : Type 0 where

@@ -1,11 +1,14 @@
 // A recorded answer to a group, held to ours, field by field. specs/GroupRecord.antt has the record's form.
 ghost use mathlib.Core.Path.{_≡_};
 ghost use mathlib.Core.Bool.{true};
+ghost use mathlib.Core.Logic.{_↔_};
 ghost use Prim.Native.Nat.{_≤_};
 ghost use lib.ListN.{length, drop};
 ghost use Rattle.meaning.specs.Entries.{matchLhs, matchRhs};
+ghost use Rattle.prefixes.specs.Group.{groupPrefixes};
+ghost use Rattle.recorded.specs.Record.{sizedRoom};
 ghost use Rattle.recorded_groups.specs.GroupRecord.{IsGroupAnswer, IsGroupRecord};
-ghost use Rattle.recorded_groups.specs.GroupField.{TextFound, FrontFound, AnswerFound, PrefixesFound, BackThere};
+ghost use Rattle.recorded_groups.specs.GroupField.{TextFound, FrontFound, AnswerFound, BackThere};
 use buffer::written::Written;
 use match_group::match_lhs;
 use match_group::match_rhs;
@@ -53,7 +56,7 @@ fn lhs_field(
     items: &[u8],
     scratch: &mut [u8],
 ) -> Next
-    requires { ⌜ at ≤ length (now told) ⌝ }
+    requires { ⌜ (at ≤ length (now told)) × (sizedRoom ≤ length (now scratch)) ⌝ }
     ensures { λ r. ⌜ AnswerFound (now (told .entry)) at (matchLhs op (now (specs .entry)) (now (items .entry))) r ⌝ }
 {
     let w = match_lhs(op, specs, items, scratch);
@@ -69,7 +72,7 @@ fn rhs_field(
     items: &[u8],
     scratch: &mut [u8],
 ) -> Next
-    requires { ⌜ at ≤ length (now told) ⌝ }
+    requires { ⌜ (at ≤ length (now told)) × (sizedRoom ≤ length (now scratch)) ⌝ }
     ensures { λ r. ⌜ AnswerFound (now (told .entry)) at (matchRhs op (now (specs .entry)) (now (items .entry))) r ⌝ }
 {
     let w = match_rhs(op, specs, items, scratch);
@@ -78,8 +81,8 @@ fn rhs_field(
 
 // The prefix list, in first-seen order.
 fn prefixes_field(told: &[u8], at: usize, op: u64, specs: &[u8], scratch: &mut [u8]) -> Next
-    requires { ⌜ at ≤ length (now told) ⌝ }
-    ensures { λ r. ⌜ PrefixesFound (now (told .entry)) at op (now (specs .entry)) r ⌝ }
+    requires { ⌜ (at ≤ length (now told)) × (sizedRoom ≤ length (now scratch)) ⌝ }
+    ensures { λ r. ⌜ AnswerFound (now (told .entry)) at (groupPrefixes op (now (specs .entry))) r ⌝ }
 {
     let w = group_prefixes(op, specs, scratch);
     front_field(told, at, w, scratch)
@@ -94,8 +97,8 @@ fn back_agrees(
     items: &[u8],
     scratch: &mut [u8],
 ) -> bool
-    requires { ⌜ at ≤ length (now told) ⌝ }
-    ensures { λ r. ⌜ (r ≡ true → BackThere op (now (specs .entry)) (now (items .entry)) (drop at (now (told .entry)))) ⌝ }
+    requires { ⌜ (at ≤ length (now told)) × (sizedRoom ≤ length (now scratch)) ⌝ }
+    ensures { λ r. ⌜ (r ≡ true) ↔ BackThere op (now (specs .entry)) (now (items .entry)) (drop at (now (told .entry))) ⌝ }
 {
     let Next::At(next) = rhs_field(told, at, op, specs, items, scratch) else {
         return false;
@@ -115,8 +118,8 @@ fn answer_agrees(
     items: &[u8],
     scratch: &mut [u8],
 ) -> bool
-    requires { ⌜ at ≤ length (now told) ⌝ }
-    ensures { λ r. ⌜ (r ≡ true → IsGroupAnswer op (now (specs .entry)) (now (items .entry)) (drop at (now (told .entry)))) ⌝ }
+    requires { ⌜ (at ≤ length (now told)) × (sizedRoom ≤ length (now scratch)) ⌝ }
+    ensures { λ r. ⌜ (r ≡ true) ↔ IsGroupAnswer op (now (specs .entry)) (now (items .entry)) (drop at (now (told .entry))) ⌝ }
 {
     match lhs_field(told, at, op, specs, items, scratch) {
         Next::At(next) => back_agrees(told, next, op, specs, items, scratch),
@@ -124,9 +127,10 @@ fn answer_agrees(
     }
 }
 
-// The record tells what we answer to the group that it names. `scratch` takes our lists; in one too short nothing agrees.
+// The record tells what we answer to the group that it names. `scratch` has room for our lists; what it holds afterwards is left open.
 pub fn group_agrees(told: &[u8], scratch: &mut [u8]) -> bool
-    ensures { λ r. ⌜ (r ≡ true → IsGroupRecord (now (told .entry))) ⌝ }
+    requires { ⌜ sizedRoom ≤ length (now scratch) ⌝ }
+    ensures { λ r. ⌜ (r ≡ true) ↔ IsGroupRecord (now (told .entry)) ⌝ }
 {
     if told.len() < 1 {
         return false;

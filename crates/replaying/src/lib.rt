@@ -1,5 +1,7 @@
 // Replays recorded answers of gix-refspec, which standard input brings, and says how many of them are ours.
 ghost use Prim.Native.Nat.{_+_, _≤_, _<_};
+ghost use lib.ListN.{length};
+ghost use Rattle.recorded.specs.Record.{sizedRoom};
 use libc::STDIN_FILENO;
 use libc::STDOUT_FILENO;
 
@@ -40,7 +42,9 @@ fn length_of(four: [u8; 4]) -> usize {
 }
 
 // The recorded answer is ours.
-fn agrees(kind: Kind, record: &[u8], scratch: &mut [u8]) -> bool {
+fn agrees(kind: Kind, record: &[u8], scratch: &mut [u8]) -> bool
+    requires { ⌜ sizedRoom ≤ length (now scratch) ⌝ }
+{
     match kind {
         Kind::Specs => recorded::agrees(record, scratch),
         Kind::Groups => recorded_groups::group_agrees(record, scratch),

@@ -1,12 +1,11 @@
--- `agrees` meets its contract: the operation, the spec after its length in two bytes, and an answer that agrees are the record. Assumes nothing.
+-- `agrees` meets its contract: the operation, the spec after its length in two bytes, and an answer that agrees are the record, and nothing else is. Assumes nothing.
 use borrow.Author.Needs.{needs}
-use mathlib.Core.Bool.{false≢true}
-use Rattle.recorded.proofs.Answers.{record-whole}
+use Rattle.recorded.proofs.Answers.{record-short, record-cut, record-whole}
 use Rattle.recorded.proofs.agrees.Statement.{statement}
 use Rattle.recorded.proofs.agrees.Tie as tie
 
 returns : tie.Need-returns
-returns c e = absurd (false≢true e)
+returns c = search record-short
 
 shared-slice-read-wide : tie.Need-shared-slice-read-wide
 shared-slice-read-wide c = search needs
@@ -36,7 +35,7 @@ add-end-2 : tie.Need-add-end-2
 add-end-2 c = search needs
 
 returns-2 : tie.Need-returns-2
-returns-2 c e = absurd (false≢true e)
+returns-2 c = search record-cut
 
 sub-answer-agrees : tie.Need-sub-answer-agrees
 sub-answer-agrees c = search needs

@@ -1,6 +1,5 @@
 -- `answer_agrees` meets its contract: the forward listing stands before the rest of the answer. Assumes nothing.
-use mathlib.Core.Bool.{false≢true}
-use Rattle.recorded_groups.proofs.Answers.{lhs-within, answer-whole}
+use Rattle.recorded_groups.proofs.Answers.{lhs-within, answer-differs, answer-whole}
 use borrow.Author.Needs.{needs}
 use Rattle.recorded_groups.proofs.answer_agrees.Statement.{statement}
 use Rattle.recorded_groups.proofs.answer_agrees.Tie as tie
@@ -12,7 +11,7 @@ enum-known-next : tie.Need-enum-known-next
 enum-known-next c = search needs
 
 back-agrees-requires : tie.Need-back-agrees-requires
-back-agrees-requires c κs = search lhs-within
+back-agrees-requires c κs = (search lhs-within, search needs)
 
 enum-told : tie.Need-enum-told
 enum-told c = search needs
@@ -27,7 +26,7 @@ same-length-2 : tie.Need-same-length-2
 same-length-2 c = search needs
 
 returns-2 : tie.Need-returns-2
-returns-2 c e = absurd (false≢true e)
+returns-2 c = search answer-differs
 
 pub answer-agrees-spec : {M : Type 1} → statement M
 answer-agrees-spec =

@@ -1,6 +1,5 @@
 -- `back_agrees` meets its contract: two fields that agree, and nothing after them, are the rest of the answer. Assumes nothing.
-use mathlib.Core.Bool.{false≢true}
-use Rattle.recorded_groups.proofs.Answers.{rhs-within, back-there}
+use Rattle.recorded_groups.proofs.Answers.{rhs-within, back-differs, prefixes-differ, back-there}
 use borrow.Author.Needs.{needs}
 use Rattle.recorded_groups.proofs.back_agrees.Statement.{statement}
 use Rattle.recorded_groups.proofs.back_agrees.Tie as tie
@@ -18,10 +17,10 @@ same-length : tie.Need-same-length
 same-length c = search needs
 
 returns : tie.Need-returns
-returns c e = absurd (false≢true e)
+returns c = search back-differs
 
 prefixes-field-requires : tie.Need-prefixes-field-requires
-prefixes-field-requires c κs = search rhs-within
+prefixes-field-requires c κs = (search rhs-within, search needs)
 
 enum-known-end : tie.Need-enum-known-end
 enum-known-end c = search needs
@@ -33,7 +32,7 @@ same-length-2 : tie.Need-same-length-2
 same-length-2 c = search needs
 
 returns-2 : tie.Need-returns-2
-returns-2 c e = absurd (false≢true e)
+returns-2 c = search prefixes-differ
 
 same-length-3 : tie.Need-same-length-3
 same-length-3 c = search needs

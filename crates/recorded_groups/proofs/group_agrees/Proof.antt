@@ -1,13 +1,12 @@
--- `group_agrees` meets its contract: the operation, both lists after their lengths in two bytes, and an answer that agrees are the record. Assumes nothing.
-use mathlib.Core.Bool.{false≢true}
+-- `group_agrees` meets its contract: the operation, both lists after their lengths in two bytes, and an answer that agrees are the record, and nothing else is. Assumes nothing.
 use Rattle.recorded_groups.proofs.Fields.{text-within, text-long, first-long, text-starts}
-use Rattle.recorded_groups.proofs.Answers.{record-whole}
+use Rattle.recorded_groups.proofs.Answers.{record-none, specs-differ, items-differ, record-whole}
 use borrow.Author.Needs.{needs}
 use Rattle.recorded_groups.proofs.group_agrees.Statement.{statement}
 use Rattle.recorded_groups.proofs.group_agrees.Tie as tie
 
 returns : tie.Need-returns
-returns c e = absurd (false≢true e)
+returns c = search record-none
 
 shared-slice-read-wide : tie.Need-shared-slice-read-wide
 shared-slice-read-wide c = search needs
@@ -25,7 +24,7 @@ enum-told : tie.Need-enum-told
 enum-told c = search needs
 
 returns-2 : tie.Need-returns-2
-returns-2 c e = absurd (false≢true e)
+returns-2 c = search specs-differ
 
 text-end-requires-2 : tie.Need-text-end-requires-2
 text-end-requires-2 c κs = search text-within
@@ -37,7 +36,7 @@ enum-told-2 : tie.Need-enum-told-2
 enum-told-2 c = search needs
 
 returns-3 : tie.Need-returns-3
-returns-3 c e = absurd (false≢true e)
+returns-3 c = search items-differ
 
 add-from : tie.Need-add-from
 add-from c = search text-starts
@@ -61,7 +60,7 @@ part-answer-agrees-end-2 : tie.Need-part-answer-agrees-end-2
 part-answer-agrees-end-2 c = search text-within
 
 answer-agrees-requires : tie.Need-answer-agrees-requires
-answer-agrees-requires c κs = search text-within
+answer-agrees-requires c κs = (search text-within, search needs)
 
 same-length : tie.Need-same-length
 same-length c = search needs

@@ -1,4 +1,6 @@
 -- `prefixes_field` meets its contract: what was written into the buffer is a prefix list of the group. Assumes nothing.
+use denote.Ref.{now}
+use Rattle.number.proofs.Round.{octets-of}
 use Rattle.recorded_groups.proofs.Fields.{prefixes-found}
 use borrow.Author.Needs.{needs}
 use Rattle.recorded_groups.proofs.prefixes_field.Statement.{statement}
@@ -14,7 +16,7 @@ same-length : tie.Need-same-length
 same-length c = search needs
 
 returns : tie.Need-returns
-returns c = search prefixes-found
+returns c = let o = octets-of (now (c .before .before .before .before .before .before .before .before .before .args .told)) (c .before .before .before .before .before .before .before .before .shared-slice-known .given) in search prefixes-found
 
 pub prefixes-field-spec : {M : Type 1} → statement M
 prefixes-field-spec =

@@ -1,5 +1,5 @@
 -- `text_end` meets its contract: two bytes of length, and that many bytes, are the sized text. Assumes nothing.
-use Rattle.recorded_groups.proofs.Fields.{text-stands}
+use Rattle.recorded_groups.proofs.Fields.{text-none, text-cut, text-stands}
 use borrow.Author.Needs.{needs}
 use Rattle.recorded_groups.proofs.text_end.Statement.{statement}
 use Rattle.recorded_groups.proofs.text_end.Tie as tie
@@ -8,7 +8,7 @@ sub-if1 : tie.Need-sub-if1
 sub-if1 c = search needs
 
 returns : tie.Need-returns
-returns c = search needs
+returns c = search text-none
 
 shared-slice-read-wide : tie.Need-shared-slice-read-wide
 shared-slice-read-wide c = search needs
@@ -38,7 +38,7 @@ sub-if2-2 : tie.Need-sub-if2-2
 sub-if2-2 c = search needs
 
 returns-2 : tie.Need-returns-2
-returns-2 c = search needs
+returns-2 c = search text-cut
 
 add-t9 : tie.Need-add-t9
 add-t9 c = search needs

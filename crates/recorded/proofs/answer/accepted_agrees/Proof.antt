@@ -1,8 +1,7 @@
 -- `accepted_agrees` meets its contract: the instruction stands before what follows it. Assumes nothing.
+use mathlib.Core.List.{[]}
 use borrow.Author.Needs.{needs}
-use denote.Ref.{now}
-use mathlib.Core.Bool.{false≢true}
-use Rattle.recorded.proofs.Answers.{instruction-within, instruction-then}
+use Rattle.recorded.proofs.Answers.{instruction-within, instruction-then, instruction-unlike}
 use Rattle.recorded.proofs.answer.accepted_agrees.Statement.{statement}
 use Rattle.recorded.proofs.answer.accepted_agrees.Tie as tie
 
@@ -13,7 +12,7 @@ enum-known-next : tie.Need-enum-known-next
 enum-known-next c = search needs
 
 canonical-agrees-requires : tie.Need-canonical-agrees-requires
-canonical-agrees-requires c κs = (let a = c .before .before .before .before .before .before .before .before .args in instruction-within (now (a .told)) (a .at) (a .i) _ _ (c .before .before .before .before .instruction-field .ensures) (c .before .before .next .given .1), search needs)
+canonical-agrees-requires c κs = (search (instruction-within, c .before .before .before .before .instruction-field .ensures []), search needs, search needs)
 
 enum-told : tie.Need-enum-told
 enum-told c = search needs
@@ -25,7 +24,7 @@ returns : tie.Need-returns
 returns c = search instruction-then
 
 returns-2 : tie.Need-returns-2
-returns-2 c e = absurd (false≢true e)
+returns-2 c = search instruction-unlike
 
 pub accepted-agrees-spec : {M : Type 1} → statement M
 accepted-agrees-spec =

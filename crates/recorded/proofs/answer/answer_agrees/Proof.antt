@@ -11,7 +11,7 @@ enum-known-i : tie.Need-enum-known-i
 enum-known-i c = search needs
 
 accepted-agrees-requires : tie.Need-accepted-agrees-requires
-accepted-agrees-requires c κs = (search needs, search answer-instructs)
+accepted-agrees-requires c κs = (search needs, search answer-instructs, search needs)
 
 enum-told : tie.Need-enum-told
 enum-told c = search needs

@@ -1,7 +1,6 @@
 -- `canonical_agrees` meets its contract: the canonical text stands before what follows it. Assumes nothing.
 use borrow.Author.Needs.{needs}
-use mathlib.Core.Bool.{false≢true}
-use Rattle.recorded.proofs.Answers.{canonical-within, canonical-then}
+use Rattle.recorded.proofs.Answers.{canonical-within, canonical-then, canonical-unlike}
 use Rattle.recorded.proofs.answer.canonical_agrees.Statement.{statement}
 use Rattle.recorded.proofs.answer.canonical_agrees.Tie as tie
 
@@ -12,7 +11,7 @@ enum-known-next : tie.Need-enum-known-next
 enum-known-next c = search needs
 
 prefix-agrees-requires : tie.Need-prefix-agrees-requires
-prefix-agrees-requires c κs = (canonical-within _ _ _ _ _ _ (c .before .before .before .before .before .before .before .before .before .before .before .pre .1) (c .before .before .before .before .before .before .canonical-field .ensures) (c .before .before .next .given .1), search needs)
+prefix-agrees-requires c κs = (search canonical-within, search needs, search needs)
 
 enum-told : tie.Need-enum-told
 enum-told c = search needs
@@ -27,7 +26,7 @@ same-length-2 : tie.Need-same-length-2
 same-length-2 c = search needs
 
 returns-2 : tie.Need-returns-2
-returns-2 c s q e = absurd (false≢true e)
+returns-2 c = search canonical-unlike
 
 pub canonical-agrees-spec : {M : Type 1} → statement M
 canonical-agrees-spec =

@@ -1,6 +1,8 @@
--- `canonical_field` meets its contract: what was written into the buffer is the canonical text. Assumes nothing.
+-- `canonical_field` meets its contract: what was written into the buffer is the canonical text; one that does not fit stands in no record. Assumes nothing.
+use denote.Ref.{now}
 use borrow.Author.Needs.{needs}
-use Rattle.recorded.proofs.Buffers.{canonical-fits, canonical-counts, found-canonical}
+use Rattle.number.proofs.Round.{octets-of}
+use Rattle.recorded.proofs.Buffers.{canonical-fits, canonical-counts, found-canonical, canonical-long}
 use Rattle.recorded.proofs.answer.canonical_field.Statement.{statement}
 use Rattle.recorded.proofs.answer.canonical_field.Tie as tie
 
@@ -11,7 +13,7 @@ same-length : tie.Need-same-length
 same-length c = search needs
 
 returns : tie.Need-returns
-returns c = search needs
+returns c = let o = octets-of (now (c .before .before .before .before .before .before .before .before .before .args .told)) (c .before .before .before .before .before .before .before .before .shared-slice-known .given) in search canonical-long
 
 slice-reshare-prefix-text-field : tie.Need-slice-reshare-prefix-text-field
 slice-reshare-prefix-text-field c = search canonical-fits

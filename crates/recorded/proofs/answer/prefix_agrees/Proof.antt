@@ -1,7 +1,6 @@
 -- `prefix_agrees` meets its contract: the prefix stands before what follows it. Assumes nothing.
 use borrow.Author.Needs.{needs}
-use mathlib.Core.Bool.{false≢true}
-use Rattle.recorded.proofs.Answers.{prefix-field-within, prefix-then}
+use Rattle.recorded.proofs.Answers.{prefix-field-within, prefix-then, prefix-unlike}
 use Rattle.recorded.proofs.answer.prefix_agrees.Statement.{statement}
 use Rattle.recorded.proofs.answer.prefix_agrees.Tie as tie
 
@@ -12,7 +11,7 @@ enum-known-next : tie.Need-enum-known-next
 enum-known-next c = search needs
 
 prefixes-agree-requires : tie.Need-prefixes-agree-requires
-prefixes-agree-requires c κs = (prefix-field-within _ _ _ _ _ _ (c .before .before .before .before .before .before .before .before .pre .1) (c .before .before .before .before .prefix-field .ensures) (c .before .before .next .given .1), search needs)
+prefixes-agree-requires c κs = (search prefix-field-within, search needs, search needs)
 
 enum-told : tie.Need-enum-told
 enum-told c = search needs
@@ -24,7 +23,7 @@ returns : tie.Need-returns
 returns c = search prefix-then
 
 returns-2 : tie.Need-returns-2
-returns-2 c s q e = absurd (false≢true e)
+returns-2 c = search prefix-unlike
 
 pub prefix-agrees-spec : {M : Type 1} → statement M
 prefix-agrees-spec =

@@ -1,6 +1,6 @@
 -- `prefix_field` meets its contract: the place that is answered denotes the prefix, and stands within the spec. Assumes nothing.
 use borrow.Author.Needs.{needs}
-use Rattle.recorded.proofs.Answers.{prefix-within, found-prefix}
+use Rattle.recorded.proofs.Answers.{prefix-within, found-prefix, no-prefix}
 use Rattle.recorded.proofs.answer.prefix_field.Statement.{statement}
 use Rattle.recorded.proofs.answer.prefix_field.Tie as tie
 
@@ -20,7 +20,7 @@ returns : tie.Need-returns
 returns c = search found-prefix
 
 returns-2 : tie.Need-returns-2
-returns-2 c = search needs
+returns-2 c = search no-prefix
 
 pub prefix-field-spec : {M : Type 1} → statement M
 prefix-field-spec =

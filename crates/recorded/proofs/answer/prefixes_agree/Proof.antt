@@ -1,7 +1,6 @@
 -- `prefixes_agree` meets its contract: nothing follows the prefixes. Assumes nothing.
 use borrow.Author.Needs.{needs}
-use mathlib.Core.Bool.{false≢true}
-use Rattle.recorded.proofs.Answers.{prefixes-end}
+use Rattle.recorded.proofs.Answers.{prefixes-end, prefixes-unlike}
 use Rattle.recorded.proofs.answer.prefixes_agree.Statement.{statement}
 use Rattle.recorded.proofs.answer.prefixes_agree.Tie as tie
 
@@ -24,7 +23,7 @@ same-length-2 : tie.Need-same-length-2
 same-length-2 c = search needs
 
 returns-2 : tie.Need-returns-2
-returns-2 c s q e = absurd (false≢true e)
+returns-2 c = search prefixes-unlike
 
 pub prefixes-agree-spec : {M : Type 1} → statement M
 prefixes-agree-spec =

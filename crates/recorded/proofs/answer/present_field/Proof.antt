@@ -1,7 +1,7 @@
 -- `present_field` meets its contract: 1, and then the text. Assumes nothing.
 use borrow.Author.Needs.{needs}
-use Rattle.recorded.proofs.Fields.{found-within}
-use Rattle.recorded.proofs.Answers.{found-present}
+use Rattle.recorded.proofs.Fields.{field-within}
+use Rattle.recorded.proofs.Answers.{found-present, found-no-mark}
 use Rattle.recorded.proofs.answer.present_field.Statement.{statement}
 use Rattle.recorded.proofs.answer.present_field.Tie as tie
 
@@ -15,7 +15,7 @@ enum-known-next : tie.Need-enum-known-next
 enum-known-next c = search needs
 
 text-field-requires : tie.Need-text-field-requires
-text-field-requires c κs = search found-within
+text-field-requires c κs = search field-within
 
 enum-told : tie.Need-enum-told
 enum-told c = search needs
@@ -24,7 +24,7 @@ returns : tie.Need-returns
 returns c = search found-present
 
 returns-2 : tie.Need-returns-2
-returns-2 c = search needs
+returns-2 c = search found-no-mark
 
 pub present-field-spec : {M : Type 1} → statement M
 present-field-spec =

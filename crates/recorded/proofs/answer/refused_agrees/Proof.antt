@@ -25,4 +25,4 @@ returns c = search refused-whole
 pub refused-agrees-spec : {M : Type 1} → statement M
 refused-agrees-spec =
     tie.close
-    (tie.spec sub-same part-same-start part-same-end slice-aggregate-same same-requires returns)
+    (tie.spec slice-aggregate-same sub-same part-same-start part-same-end same-requires returns)

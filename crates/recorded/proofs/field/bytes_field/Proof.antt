@@ -1,6 +1,6 @@
--- `bytes_field` meets its contract: what begins the rest of a record stands there. Assumes nothing.
+-- `bytes_field` meets its contract: the rest of the record begins with the bytes, or it does not. Assumes nothing.
 use borrow.Author.Needs.{needs}
-use Rattle.recorded.proofs.Fields.{stands-here}
+use Rattle.recorded.proofs.Fields.{field-yes, field-no}
 use Rattle.recorded.proofs.field.bytes_field.Statement.{statement}
 use Rattle.recorded.proofs.field.bytes_field.Tie as tie
 
@@ -20,10 +20,10 @@ add-t10 : tie.Need-add-t10
 add-t10 c = search needs
 
 returns : tie.Need-returns
-returns c = search stands-here
+returns c = search field-yes
 
 returns-2 : tie.Need-returns-2
-returns-2 c = search needs
+returns-2 c = search field-no
 
 pub bytes-field-spec : {M : Type 1} → statement M
 bytes-field-spec =

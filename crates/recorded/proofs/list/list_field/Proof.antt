@@ -7,7 +7,7 @@ use borrow.Author.Needs.{needs}
 use lib.ListN.{length}
 use Rattle.meaning.specs.Bytes.{Text}
 use Rattle.meaning.specs.Number.{recordBytes}
-use Rattle.recorded.proofs.Lists.{Passing, passing-starts, turn-within, turn-passes, list-done}
+use Rattle.recorded.proofs.Lists.{Passing, passing-starts, turn-within, turn-passes, turn-differs, list-none, passing-fewer, list-done}
 use Rattle.recorded.proofs.list.list_field.Statement.{statement}
 use Rattle.recorded.proofs.list.list_field.Tie as tie
 
@@ -18,10 +18,7 @@ abbrev μ-loop : tie.MeasureT-loop
 μ-loop told start list many next₀ at₀ k₀ next at k = many - k
 
 returns : tie.Need-returns Inv-loop μ-loop
-returns c = search needs
-
-returns-2 : tie.Need-returns-2 Inv-loop μ-loop
-returns-2 c = search needs
+returns c = search list-none
 
 shared-slice-read-wide : tie.Need-shared-slice-read-wide Inv-loop μ-loop
 shared-slice-read-wide c = search needs
@@ -44,8 +41,8 @@ enum-known-n c = search needs
 enum-told : tie.Need-enum-told Inv-loop μ-loop
 enum-told c = search needs
 
-returns-3 : tie.Need-returns-3 Inv-loop μ-loop
-returns-3 c = search needs
+returns-2 : tie.Need-returns-2 Inv-loop μ-loop
+returns-2 c = search turn-differs
 
 add-k : tie.Need-add-k Inv-loop μ-loop
 add-k c = search needs
@@ -56,11 +53,11 @@ loop-less c = search needs
 loop-again : tie.Need-loop-again Inv-loop μ-loop
 loop-again c = (omega arith, search turn-within, search turn-passes)
 
-returns-4 : tie.Need-returns-4 Inv-loop μ-loop
-returns-4 c = search needs
+returns-3 : tie.Need-returns-3 Inv-loop μ-loop
+returns-3 c l q = search (passing-fewer, c .before .before .loop .inv .2 l q)
 
-returns-5 : tie.Need-returns-5 Inv-loop μ-loop
-returns-5 c = search list-done
+returns-4 : tie.Need-returns-4 Inv-loop μ-loop
+returns-4 c = search list-done
 
 pub list-field-spec : {M : Type 1} → statement M
 list-field-spec =
@@ -69,7 +66,6 @@ list-field-spec =
     Inv-loop
     μ-loop
     returns
-    returns-2
     shared-slice-read-wide
     wide-requires
     add-next
@@ -77,9 +73,9 @@ list-field-spec =
     prefix-passes-requires
     enum-known-n
     enum-told
-    returns-3
+    returns-2
     add-k
     loop-less
     loop-again
-    returns-4
-    returns-5)
+    returns-3
+    returns-4)

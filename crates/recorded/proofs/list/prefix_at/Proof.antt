@@ -1,6 +1,6 @@
 -- `prefix_at` meets its contract: the text that was found in the record is that part of the list. Assumes nothing.
 use borrow.Author.Needs.{needs}
-use Rattle.recorded.proofs.Lists.{passed-text}
+use Rattle.recorded.proofs.Lists.{passed-none, passed-text, passed-other}
 use Rattle.recorded.proofs.list.prefix_at.Statement.{statement}
 use Rattle.recorded.proofs.list.prefix_at.Tie as tie
 
@@ -8,7 +8,7 @@ sub-if1 : tie.Need-sub-if1
 sub-if1 c = search needs
 
 returns : tie.Need-returns
-returns c = search needs
+returns c = search passed-none
 
 add-end : tie.Need-add-end
 add-end c = search needs
@@ -35,7 +35,7 @@ returns-2 : tie.Need-returns-2
 returns-2 c = search passed-text
 
 returns-3 : tie.Need-returns-3
-returns-3 c = search needs
+returns-3 c = search passed-other
 
 pub prefix-at-spec : {M : Type 1} → statement M
 prefix-at-spec =

@@ -1,6 +1,6 @@
 -- `prefix_passes` meets its contract: a number and as many bytes are a record of the list. Assumes nothing.
 use borrow.Author.Needs.{needs}
-use Rattle.recorded.proofs.Lists.{number-within, passed-record}
+use Rattle.recorded.proofs.Lists.{number-within, passed-record, passed-malformed}
 use Rattle.recorded.proofs.list.prefix_passes.Statement.{statement}
 use Rattle.recorded.proofs.list.prefix_passes.Tie as tie
 
@@ -20,7 +20,7 @@ returns : tie.Need-returns
 returns c = search passed-record
 
 returns-2 : tie.Need-returns-2
-returns-2 c = search needs
+returns-2 c = search passed-malformed
 
 pub prefix-passes-spec : {M : Type 1} → statement M
 prefix-passes-spec =
