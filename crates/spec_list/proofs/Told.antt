@@ -18,8 +18,8 @@ pub record GroupPassed (s : Text) (g : Group) (a : Answer (List Spec)) : Type 0 
 -- a spec list
 pub group-passed : (s : Text) (g : Group) (a : Answer (List Spec)) → GroupRead s g a → g .refusal ≡ 0 → GroupPassed s g a
 group-passed s g (accepted l) r z = record { members = l; answer = refl; is = r }
-group-passed s g (refused n q) r z = let h = r .some in let e = r .refusal-is in absurd (omega arith)
+group-passed s g (refused n q) r z = let h = r .some in let e : g .refusal ≡ n = rw (r .is) in absurd (omega arith)
 
 pub group-failed : (s : Text) (g : Group) (a : Answer (List Spec)) → GroupRead s g a → (g .refusal ≡ 0 → ⊥) → Failed a (g .refusal) (g .«record»)
 group-failed s g (accepted l) r z = absurd (z (r .refusal-is))
-group-failed s g (refused n q) r z = record { carried = q; answer = ap (λ (k : ℕ). refused k q) (sym (r .refusal-is)); number = r .record-is }
+group-failed s g (refused n q) r z = rw (r .is) (record { carried = q; answer = refl; number = refl })

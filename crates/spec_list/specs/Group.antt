@@ -1,5 +1,5 @@
 -- What reading a spec list answers: its specs as places in the list, or a refusal; and what stands at a place of a spec list.
-use Prim.Native.Nat.{ℕ, _+_, _<_, _≤_}
+use Prim.Native.Nat.{ℕ, _+_, _-_, _<_, _≤_}
 use mathlib.Core.Path.{_≡_}
 use mathlib.Core.List.{List, [], _∷_, map}
 use mathlib.Core.Option.{Option, none}
@@ -19,7 +19,7 @@ use Rattle.spec_list.specs.declared.SpecStep.{SpecStep}
 use Rattle.spec_list.specs.declared.SpecStep.the-variants as found
 use Rattle.spec_list.specs.declared.Group.{Group}
 use Rattle.spec_list.specs.declared.record.SpecRecord.{SpecRecord}
-use Rattle.spec_list.specs.Table.{specFromRecord}
+use Rattle.spec_list.specs.Table.{specFromRecord, blanks}
 
 -- a side of a text that begins at `start` of a list, as a place in the list
 abbrev pub shiftedSide : ℕ → Side → Side
@@ -44,7 +44,7 @@ abbrev pub AllWithin : ℕ → List SpecRecord → Type 0
 AllWithin len [] = Unit {0}
 AllWithin len (q ∷ l) = SidesWithin len (specFromRecord q) × AllWithin len l
 
--- a group that was read: its specs, as records of places in the list
+-- a group that was read: its specs, as records of places in the list, and nothing in the places after them
 pub record GroupIs (list : Text) (g : Group) (group : List Spec) : Type 0 where
   pub refusal-is : g .refusal ≡ 0
   pub record-is : g .«record» ≡ 0
@@ -52,13 +52,16 @@ pub record GroupIs (list : Text) (g : Group) (group : List Spec) : Type 0 where
   pub count-within : g .count ≤ specCount
   pub means : groupMeant list (take (g .count) (g .specs)) ≡ group
   pub within : AllWithin (length list) (take (g .count) (g .specs))
+  pub others : drop (g .count) (g .specs) ≡ blanks (specCount - g .count)
 
--- a group that was refused
+-- a group that was refused: no specs
+abbrev pub refusedGroup : ℕ → ℕ → Group
+refusedGroup n r = record { refusal = n; «record» = r; count = 0; specs = blanks specCount }
+
+-- it tells the refusal and its record
 pub record GroupRefused (g : Group) (n : ℕ) (r : Option ℕ) : Type 0 where
-  pub refusal-is : g .refusal ≡ n
+  pub is : g ≡ refusedGroup n (orZero r)
   pub some : 0 < n
-  pub record-is : g .«record» ≡ orZero r
-  pub count-is : g .count ≡ 0
 
 -- a group tells an answer on its list
 abbrev pub GroupRead : Text → Group → Answer (List Spec) → Type 0

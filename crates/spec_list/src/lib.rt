@@ -1,14 +1,14 @@
 // Reading a spec list: the questions in order, each record in turn, into a table of records by value.
 ghost use mathlib.Core.Path.{_≡_};
-ghost use mathlib.Core.Option.{none};
-ghost use Prim.Native.Nat.{_+_, _<_, _≤_};
+ghost use Prim.Native.Nat.{_+_, _≤_};
 ghost use lib.ListN.{length};
 ghost use Rattle.meaning.specs.Limits.{specListBytes, specCount};
 ghost use Rattle.meaning.specs.Lists.{specRecord, readSpecs};
 ghost use Rattle.promises.specs.Facts.{records};
 ghost use Rattle.parse.specs.Places.{Within, SidesWithin};
 ghost use Rattle.list.specs.Checked.{checked};
-ghost use Rattle.spec_list.specs.Group.{shiftedSide, shifted, SpecIn, SpecSays, GroupRefused, GroupRead};
+ghost use Rattle.spec_list.specs.Group.{shiftedSide, shifted, SpecIn, SpecSays, refusedGroup, GroupRead};
+ghost use Rattle.spec_list.specs.Table.{blanks};
 
 pub mod record;
 pub mod table;
@@ -102,7 +102,7 @@ fn next_spec(op: u64, list: &[u8], c: Cursor, count: usize) -> SpecStep
 
 // A table with no specs.
 fn no_specs() -> [SpecRecord; SPEC_COUNT]
-    ensures { λ t. ⌜ length t ≡ specCount ⌝ }
+    ensures { λ t. ⌜ t ≡ blanks specCount ⌝ }
 {
     let none = SpecRecord {
         mode: Mode::Normal,
@@ -116,15 +116,14 @@ fn no_specs() -> [SpecRecord; SPEC_COUNT]
     [none; SPEC_COUNT]
 }
 
-// A group that was refused at no record.
-fn refused(n: u64) -> Group
-    requires { ⌜ 0 < n ⌝ }
-    ensures { λ g. ⌜ GroupRefused g n none ⌝ }
+// A group that was refused, with the number of the record or 0.
+fn refused(n: u64, record: u64) -> Group
+    ensures { λ g. ⌜ g ≡ refusedGroup n «record» ⌝ }
 {
     let specs = no_specs();
     Group {
         refusal: n,
-        record: 0,
+        record,
         count: 0,
         specs,
     }
@@ -154,12 +153,7 @@ fn each_spec(op: u64, list: &[u8]) -> Group
                 };
             }
             SpecStep::Refused(n) => {
-                return Group {
-                    refusal: n,
-                    record: count as u64,
-                    count: 0,
-                    specs,
-                };
+                return refused(n, count as u64);
             }
         }
     }
@@ -170,10 +164,10 @@ pub fn read_specs(op: u64, list: &[u8]) -> Group
     ensures { λ g. ⌜ GroupRead (now (list .entry)) g (readSpecs op (now (list .entry))) ⌝ }
 {
     if 1 < op {
-        return refused(18);
+        return refused(18, 0);
     }
     if SPEC_LIST_BYTES < list.len() {
-        return refused(12);
+        return refused(12, 0);
     }
     each_spec(op, list)
 }

@@ -54,6 +54,9 @@ returns c = search filling-whole
 enum-known-n : tie.Need-enum-known-n Inv-loop μ-loop
 enum-known-n c = search needs
 
+refused-requires : tie.Need-refused-requires Inv-loop μ-loop
+refused-requires c κs = search needs
+
 returns-2 : tie.Need-returns-2 Inv-loop μ-loop
 returns-2 c = search filling-stop
 
@@ -77,4 +80,5 @@ each-spec-spec =
     enum-told
     returns
     enum-known-n
+    refused-requires
     returns-2)
