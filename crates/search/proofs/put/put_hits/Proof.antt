@@ -55,7 +55,7 @@ put-hit-requires c κs =
     let e = b .wider .ensures in
     let w = l .loop .inv .0 in
     let em : c .before .if2 .m ≡ matcherAt (now (s .args .table)) (b .wider .result / hitStride) = ⊎-elim (λ w. cc) (λ w. cc) (c .before .if2 .came) in
-    (search turn-ready, search needs, search turn-spec, search turn-item, search turn-gives, turn-room _ _ _ _ t _ _ _ _ q _ h _ e _ em _ _ _ _ w)
+    (turn-ready _ _ _ _ t _ _ _ _ q _ h _ e _ em, s .pre .1, turn-spec _ _ _ _ t _ _ _ _ q _ h _ e, turn-item _ _ _ _ t _ _ _ _ q _ h _ e, turn-gives _ _ _ _ t _ _ _ _ q _ h _ e _ em, turn-room _ _ _ _ t _ _ _ _ q _ h _ e _ em _ _ _ _ w)
 
 add-k : tie.Need-add-k Inv-loop μ-loop
 add-k c =
