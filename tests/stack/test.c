@@ -129,9 +129,9 @@ static list and_byte(list l, uint8_t byte)
     return more;
 }
 
-/* What rows have: empty texts; each its own destination; each its own source, all for one destination; each its own
- * source, two for a destination. The texts come in falling order. */
-enum rows { EMPTY, DESTINATIONS, SOURCES, PAIRS };
+/* What rows have: empty texts; each its own destination; the same with a source of 1,000 bytes; each its own source, all
+ * for one destination; each its own source, two for a destination. The texts come in falling order. */
+enum rows { EMPTY, DESTINATIONS, LONG, SOURCES, PAIRS };
 
 /* The row of no item and of spec 0. */
 static void add_row(list *l, const uint8_t *source, size_t source_len, const uint8_t *destination, size_t len)
@@ -146,6 +146,7 @@ static void add_row(list *l, const uint8_t *source, size_t source_len, const uin
 /* A list of `count` rows, or of as many as 1,048,576 bytes hold. */
 static list rows(enum rows kind, size_t count)
 {
+    static const uint8_t bytes[1000];
     list l = empty();
     size_t i;
     for (i = 0; i < count; i++) {
@@ -155,6 +156,7 @@ static list rows(enum rows kind, size_t count)
         switch (kind) {
         case EMPTY: add_row(&l, name, 0, name, 0); break;
         case DESTINATIONS: add_row(&l, name, 0, name, 8); break;
+        case LONG: add_row(&l, bytes, 1000, name, 8); break;
         case SOURCES: add_row(&l, name + 5, 3, name, 5); break;
         case PAIRS: add_row(&l, name + 5, 3, half, 3); break;
         }
@@ -331,6 +333,7 @@ static void add_all(void)
     add_source("an object", literals, items, 0, 0);
     add_source("no such item", specs, items, 1025, 16);
 
+    add_rows("1,024 long rows", specs, rows(LONG, 1024), 0, VASIGMON_STACK_1024_ROWS, 8192);
     for (i = 0; i < sizeof sizes / sizeof sizes[0]; i++) {
         size_t n = sizes[i].count, stack = sizes[i].stack, little = sizes[i].little;
         add_rows(sizes[i].what, specs, rows(EMPTY, n), 0, stack, little);
