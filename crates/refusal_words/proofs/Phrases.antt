@@ -1,5 +1,5 @@
 -- The rule of the table of phrases: one test of the whole table, and what it says of each entry. Assumes nothing.
-use mathlib.Core.Path.{_≡_, sym, ap, _∙_}
+use mathlib.Core.Path.{_≡_, sym}
 use mathlib.Core.Bool.{Bool, true, false, false≢true}
 use mathlib.Core.List.{List, [], _∷_}
 use Prim.Native.Nat.{ℕ, zero, suc, _≤_, _<_}
@@ -7,14 +7,15 @@ use native.Mathlib.Omega.{arith}
 use borrow.Author.Tests.{eqb-true, leb-true, le-leb, lt-leb, ne-eqb}
 use lib.Dec.{eqb, leb}
 use lib.ListN.{length, take, getD}
+use lib.Seq.{length-take-le}
 use Rattle.meaning.specs.Bytes.{Text, _and_, same}
 use Rattle.promises.proofs.Laws.{and-left, and-right, same-is}
-use Rattle.refusal_words.specs.Words.{placeOf, phraseAt, reasonWords, Spells}
+use Rattle.refusal_words.specs.Words.{placeOf, phraseAt, reasonWords, padded, Spells}
 use Rattle.refusal_words.specs.declared.Words.{Words}
 
 -- an entry spells a phrase
 abbrev pub rightEntry : Text → Words → Bool
-rightEntry t e = same (take (e .1) (e .0)) t and eqb (e .1) (length t) and leb (e .1) (length (e .0))
+rightEntry t e = same (e .0) (padded t) and eqb (e .1) (length t) and leb (e .1) (length (e .0))
 
 -- a table spells phrases, entry by entry
 abbrev pub rightTable : List Text → List Words → Bool
@@ -25,11 +26,11 @@ rightTable (t ∷ ts) (e ∷ es) = rightEntry t e and rightTable ts es
 
 right-entry : (t : Text) (e : Words) → rightEntry t e ≡ true → Spells t (e .0) (e .1)
 right-entry t e r =
-    let a = same (take (e .1) (e .0)) t in
+    let a = same (e .0) (padded t) in
     let b = eqb (e .1) (length t) in
     let c = leb (e .1) (length (e .0)) in
     let s = and-right a (b and c) r in
-    record { spells = same-is (take (e .1) (e .0)) t (and-left a (b and c) r); counts = eqb-true (e .1) (length t) (and-left b c s); within = leb-true (e .1) (length (e .0)) (and-right b c s) }
+    record { spells = same-is (e .0) (padded t) (and-left a (b and c) r); counts = eqb-true (e .1) (length t) (and-left b c s); within = leb-true (e .1) (length (e .0)) (and-right b c s) }
 
 -- every entry of a right table spells the phrase of its place
 pub right-at : (ts : List Text) (es : List Words) → rightTable ts es ≡ true → (k : ℕ) → k < length es → (d : Words) → Spells (getD ts k []) (getD es k d .0) (getD es k d .1)
@@ -63,4 +64,4 @@ place-other n h a b = rw (lt-leb n 15 h, ne-eqb n 101 a, ne-eqb n 102 b)
 
 -- as many bytes are there as count
 pub spells-taken : (t array : Text) (size : ℕ) → Spells t array size → size ≡ length (take size array)
-spells-taken t array size s = s .counts ∙ sym (ap length (s .spells))
+spells-taken t array size s = sym (length-take-le size array (s .within))

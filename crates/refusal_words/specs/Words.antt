@@ -1,10 +1,10 @@
 -- Why a line of text is refused, in words.
-use Prim.Native.Nat.{ℕ, _≤_}
+use Prim.Native.Nat.{ℕ, _-_, _≤_}
 use mathlib.Core.Path.{_≡_}
 use mathlib.Core.Bool.{cond}
-use mathlib.Core.List.{List, [], _∷_}
+use mathlib.Core.List.{List, [], _∷_, _++_}
 use lib.Dec.{eqb, leb}
-use lib.ListN.{length, take, getD}
+use lib.ListN.{length, getD, replicate}
 use Rattle.meaning.specs.Bytes.{Text, bytes}
 
 -- the phrases: of document 01's numbers 0 to 15, then of a push and of a line of no known kind; 0 and 13 are given to no line
@@ -42,8 +42,16 @@ placeOf n = cond (leb n 15) n (cond (eqb n 101) 16 (cond (eqb n 102) 17 0))
 unfoldable pub reasonWords : ℕ → Text
 reasonWords n = phraseAt (placeOf n)
 
--- the first bytes of an array spell a text
+-- bytes of the array that holds a phrase
+abbrev pub wordsRoom : ℕ
+wordsRoom = 60
+
+-- a phrase with zeros after it
+abbrev pub padded : Text → Text
+padded t = t ++ replicate (wordsRoom - length t) 0
+
+-- an array and a length spell a text
 pub record Spells (t array : Text) (size : ℕ) : Type 0 where
-  pub spells : take size array ≡ t
+  pub spells : array ≡ padded t
   pub counts : size ≡ length t
   pub within : size ≤ length array

@@ -3,7 +3,7 @@ ghost use mathlib.Core.Path.{_≡_};
 ghost use Prim.Native.Nat.{_<_};
 ghost use Rattle.refusal_words.specs.Words.{placeOf, phraseAt, reasonWords, Spells};
 
-// A phrase: its bytes, and how many of them count.
+// A phrase: its bytes with zeros after them, and how many of them count.
 pub struct Words(pub [u8; 60], pub usize);
 
 // The phrases, by their places.
