@@ -5,7 +5,7 @@ use mathlib.Core.Option.{Option, none, some}
 use Prim.Native.Nat.{_+_, _^_, _≤_, _<_}
 use lib.Dec.{lit≤, lit<}
 use lib.ListN.{length, replicate}
-use Rattle.meaning.specs.Bytes.{Text, bytes}
+use Rattle.meaning.specs.Bytes.{Text, bytes, byte, caret}
 use Rattle.meaning.specs.Limits.{mappedBytes, specListBytes, itemListBytes, rowListBytes, specCount, itemCount, largestNumber, decimalDigits}
 use Rattle.meaning.specs.Spec.{accepted, refused, Mode, Normal, Negative, Spec, readSpec}
 use Rattle.meaning.specs.Number.{recordBytes}
@@ -29,21 +29,21 @@ owed = (lit≤ tt, lit≤ tt, lit≤ tt, lit< tt, lit≤ tt, lit≤ tt)
 
 -- 65,535 bytes of items
 abbrev fullItems : List Text
-fullItems = replicate 15 (replicate 4096 97) ++ (replicate 4063 97 ∷ [])
+fullItems = replicate 15 (replicate 4096 (byte "a")) ++ (replicate 4063 (byte "a") ∷ [])
 
 -- the limits, on either side
 pub limits :
-    (readSpec 0 (replicate 4096 97) ≡ accepted (spec Normal (some (replicate 4096 97)) none))
-    × (readSpec 0 (replicate 4097 97) ≡ refused 1 none)
-    × (readSpec 0 (94 ∷ replicate 39 97) ≡ accepted (spec Negative (some (replicate 39 97)) none))
-    × (readSpec 0 (94 ∷ replicate 40 97) ≡ refused 11 none)
-    × (readSpec 0 (94 ∷ replicate 41 97) ≡ refused 11 none)
+    (readSpec 0 (replicate 4096 (byte "a")) ≡ accepted (spec Normal (some (replicate 4096 (byte "a"))) none))
+    × (readSpec 0 (replicate 4097 (byte "a")) ≡ refused 1 none)
+    × (readSpec 0 (caret ∷ replicate 39 (byte "a")) ≡ accepted (spec Negative (some (replicate 39 (byte "a"))) none))
+    × (readSpec 0 (caret ∷ replicate 40 (byte "a")) ≡ refused 11 none)
+    × (readSpec 0 (caret ∷ replicate 41 (byte "a")) ≡ refused 11 none)
     × (readSpecs 0 (replicate 256 0) ≡ accepted (replicate 256 (spec Normal (some (bytes "HEAD")) none)))
     × (readSpecs 0 (replicate 257 0) ≡ refused 14 (some 256))
     × (readItems (replicate 1024 0) ≡ accepted (replicate 1024 []))
     × (readItems (replicate 1025 0) ≡ refused 14 (some 1024))
-    × (readItems (128 ∷ 32 ∷ replicate 4096 97) ≡ accepted (replicate 4096 97 ∷ []))
-    × (readItems (129 ∷ 32 ∷ replicate 4097 97) ≡ refused 15 (some 0))
+    × (readItems (128 ∷ 32 ∷ replicate 4096 (byte "a")) ≡ accepted (replicate 4096 (byte "a") ∷ []))
+    × (readItems (129 ∷ 32 ∷ replicate 4097 (byte "a")) ≡ refused 15 (some 0))
     × (length (recordBytes fullItems) ≡ 65535)
     × (readItems (recordBytes fullItems) ≡ accepted fullItems)
     × (readItems (replicate 65536 0) ≡ refused 12 none)

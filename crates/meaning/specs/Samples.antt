@@ -5,7 +5,7 @@ use mathlib.Core.Bool.{true, false}
 use mathlib.Core.List.{List, [], _∷_, _++_}
 use mathlib.Core.Option.{Option, none, some}
 use lib.ListN.{length, replicate}
-use Rattle.meaning.specs.Bytes.{Text, bytes, In, here, there}
+use Rattle.meaning.specs.Bytes.{Text, bytes, byte, plus, equals, In, here, there}
 use Rattle.meaning.specs.Spec.{Answer, accepted, refused, Mode, Normal, Force, Negative, Spec, readSpec}
 use Rattle.meaning.specs.Buffers.{Outputs}
 use Rattle.meaning.specs.Instruction.{fetchExclude, fetchAndUpdate, pushAllMatchingBranches, pushMatching, pushExclude}
@@ -35,10 +35,10 @@ row i s k a b = record { item = i; spec = s; kind = k; source = a; destination =
 
 -- forty letters a, and forty digits of both cases
 abbrev lowerDigits : Text
-lowerDigits = replicate 40 97
+lowerDigits = replicate 40 (byte "a")
 
 abbrev mixedDigits : Text
-mixedDigits = replicate 20 65 ++ replicate 20 97
+mixedDigits = replicate 20 (byte "A") ++ replicate 20 (byte "a")
 
 -- the sample's spec list and item list
 abbrev hub : Text
@@ -209,7 +209,7 @@ validation = (refl, refl, refl, refl, refl, refl)
 
 -- an object source with a sign before it, second in its list
 abbrev ids : Text
-ids = recordBytes (bytes "a" ∷ (43 ∷ mixedDigits ++ bytes ":b") ∷ [])
+ids = recordBytes (bytes "a" ∷ (plus ∷ mixedDigits ++ bytes ":b") ∷ [])
 
 -- the source view: which list, which place, which bytes; 16 and the empty part
 pub views :
@@ -232,13 +232,13 @@ pub program :
     (deliveries (numberBytes (length hub) ++ (hub ++ codes)) ≡ bytes "item\tspec\tkind\tsource\tdestination\n0\t0\tname\t=refs/heads/codes\t=refs/remotes/hub/codes\n")
     × (deliveries (0 ∷ []) ≡ bytes "item\tspec\tkind\tsource\tdestination\n")
     × (deliveries (41 ∷ 40 ∷ lowerDigits) ≡ bytes "item\tspec\tkind\tsource\tdestination\n-\t0\tobject\t=aaaaaaaaaaaaaaaaaaaaaaaaaaaaaaaaaaaaaaaa\t-\n")
-    × (deliveries (6 ∷ 5 ∷ bytes "a*:b*" ++ (5 ∷ bytes "a%" ++ (32 ∷ 255 ∷ 61 ∷ []))) ≡ bytes "item\tspec\tkind\tsource\tdestination\n0\t0\tname\t=a%25%20%FF=\t=b%25%20%FF=\n")
+    × (deliveries (6 ∷ 5 ∷ bytes "a*:b*" ++ (5 ∷ bytes "a% " ++ (255 ∷ equals ∷ []))) ≡ bytes "item\tspec\tkind\tsource\tdestination\n0\t0\tname\t=a%25%20%FF=\t=b%25%20%FF=\n")
     × (deliveries [] ≡ bytes "refused 13\n")
     × (deliveries (5 ∷ []) ≡ bytes "refused 13\n")
     × (deliveries (2 ∷ 1 ∷ bytes "^") ≡ bytes "refused 10\n")
     × (deliveries (replicate 65537 0) ≡ bytes "refused 12\n")
-    × (withinLimit (replicate 65536 97) ≡ accepted (replicate 65536 97))
-    × (withinLimit (replicate 65537 97) ≡ refused 17 none)
+    × (withinLimit (replicate 65536 (byte "a")) ≡ accepted (replicate 65536 (byte "a")))
+    × (withinLimit (replicate 65537 (byte "a")) ≡ refused 17 none)
 unfolding everything
 program = (refl, refl, refl, refl, refl, refl, refl, refl, refl, refl)
 
@@ -254,12 +254,12 @@ pub names :
     × (readSpec 0 (bytes "a@{b") ≡ refused 6 none)
     × (readSpec 0 (bytes "a@") ≡ accepted (spec Normal (some (bytes "a@")) none))
     × (readSpec 0 (bytes "a b") ≡ refused 6 none)
-    × (readSpec 0 (97 ∷ 127 ∷ []) ≡ refused 6 none)
-    × (readSpec 0 (97 ∷ 31 ∷ []) ≡ refused 6 none)
-    × (readSpec 0 (97 ∷ 128 ∷ []) ≡ accepted (spec Normal (some (97 ∷ 128 ∷ [])) none))
+    × (readSpec 0 (byte "a" ∷ 127 ∷ []) ≡ refused 6 none)
+    × (readSpec 0 (byte "a" ∷ 31 ∷ []) ≡ refused 6 none)
+    × (readSpec 0 (byte "a" ∷ 128 ∷ []) ≡ accepted (spec Normal (some (byte "a" ∷ 128 ∷ [])) none))
     × (readSpec 0 (bytes "a?") ≡ refused 6 none)
     × (readSpec 0 (bytes "a[") ≡ refused 6 none)
-    × (readSpec 0 (97 ∷ 92 ∷ []) ≡ refused 6 none)
+    × (readSpec 0 (bytes "a\\") ≡ refused 6 none)
     × (readSpec 0 (bytes "a~") ≡ refused 6 none)
     × (readSpec 0 (bytes "a/*.lock:b*") ≡ refused 6 none)
 unfolding everything

@@ -4,26 +4,26 @@ use mathlib.Core.List.{[], _∷_}
 use Prim.Native.Nat.{ℕ, zero, suc}
 use lib.Dec.{eqb, leb}
 use lib.ListN.{getD}
-use Rattle.meaning.specs.Bytes.{Text, bytes, star, _and_, _or_, empty, same, begins, count}
+use Rattle.meaning.specs.Bytes.{Text, bytes, byte, star, slash, backslash, _and_, _or_, empty, same, begins, count}
 use Rattle.meaning.specs.Names.{ruleFourByte, ruleFiveByte, sidePasses}
 use Rattle.name.specs.declared.NameKind.{NameKind}
 use Rattle.name.specs.declared.NameKind.the-variants.{Name, Pattern, Neither}
 
 -- 4, 5 and 10: a byte that a name may have
 unfoldable pub nameByte : ℕ → Bool
-nameByte b = ruleFourByte b and ruleFiveByte b and not (eqb 92 b)
+nameByte b = ruleFourByte b and ruleFiveByte b and not (eqb backslash b)
 
 -- a small letter
 unfoldable pub letter : ℕ → Bool
-letter b = leb 97 b and leb b 122
+letter b = leb (byte "a") b and leb b (byte "z")
 
 -- a capital
 unfoldable pub capital : ℕ → Bool
-capital b = leb 65 b and leb b 90
+capital b = leb (byte "A") b and leb b (byte "Z")
 
 -- a digit
 unfoldable pub digit : ℕ → Bool
-digit b = leb 48 b and leb b 57
+digit b = leb (byte "0") b and leb b (byte "9")
 
 -- 1: what makes a part end with `.lock`, after the dot
 unfoldable pub restOfLock : Text → Bool
@@ -43,7 +43,7 @@ afterAtSign s = not (begins (bytes "{") s)
 
 -- a byte that a name may have, before a text that may follow it
 unfoldable pub stands : ℕ → Text → Bool
-stands x s = cond (eqb 46 x) (afterDot s) (cond (eqb 47 x) (afterSlash s) (cond (eqb 64 x) (afterAtSign s) (nameByte x)))
+stands x s = cond (eqb (byte ".") x) (afterDot s) (cond (eqb slash x) (afterSlash s) (cond (eqb (byte "@") x) (afterAtSign s) (nameByte x)))
 
 -- how many bytes of a text stand, up to the first that does not
 abbrev pub standing : Text → ℕ
@@ -52,11 +52,11 @@ standing (x ∷ s) = cond (stands x s) (suc (standing s)) 0
 
 -- a small letter, a capital, a digit, a hyphen or a slash
 unfoldable pub plain : ℕ → Bool
-plain b = (((letter b or capital b) or digit b) or eqb b 45) or eqb b 47
+plain b = (((letter b or capital b) or digit b) or eqb b (byte "-")) or eqb b slash
 
 -- such a byte before a text that begins with c; a slash stands before neither a dot nor a slash
 unfoldable pub fits : ℕ → ℕ → Bool
-fits b c = plain b and not (eqb b 47 and (leb 46 c and leb c 47))
+fits b c = plain b and not (eqb b slash and (leb (byte ".") c and leb c slash))
 
 -- each of the first n bytes of a text fits before the next
 abbrev pub fitting : ℕ → Text → Bool

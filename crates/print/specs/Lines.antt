@@ -4,18 +4,18 @@ use mathlib.Core.Bool.{Bool, true, false, not}
 use mathlib.Core.List.{[], _∷_, _++_}
 use mathlib.Core.Option.{Option, none, some}
 use lib.Dec.{eqb, leb}
-use Rattle.meaning.specs.Bytes.{Text, _and_}
+use Rattle.meaning.specs.Bytes.{Text, percent, tab, lineFeed, _and_}
 use Rattle.meaning.specs.Limits.{programBytes, decimalDigits}
 use Rattle.meaning.specs.Rows.{Row}
 use Rattle.meaning.specs.Deliveries.{decimal, capitalDigit, shownItem, shownKind}
 
 -- a byte that is printed as it is
 abbrev pub printable : ℕ → Bool
-printable b = leb 33 b and leb b 126 and not (eqb b 37)
+printable b = leb 33 b and leb b 126 and not (eqb b percent)
 
 -- `%` and the two digits of a byte
 unfoldable pub coded : ℕ → Text
-coded b = 37 ∷ capitalDigit (b / 16) ∷ capitalDigit (b % 16) ∷ []
+coded b = percent ∷ capitalDigit (b / 16) ∷ capitalDigit (b % 16) ∷ []
 
 -- a field and the byte that ends it
 unfoldable pub ended : ℕ → Text → Text
@@ -23,11 +23,11 @@ ended b f = f ++ (b ∷ [])
 
 -- a field before the tab that parts it from the next
 abbrev pub withTab : Text → Text
-withTab f = ended 9 f
+withTab f = ended tab f
 
 -- the last field, before the line feed
 abbrev pub withFeed : Text → Text
-withFeed f = ended 10 f
+withFeed f = ended lineFeed f
 
 -- the fields that a line begins with
 unfoldable pub lineStart : ℕ → ℕ → ℕ → Text

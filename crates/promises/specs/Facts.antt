@@ -7,7 +7,7 @@ use mathlib.Core.List.{List, [], _∷_, _++_, map}
 use mathlib.Core.Option.{some}
 use lib.Dec.{ltb}
 use lib.ListN.{length}
-use Rattle.meaning.specs.Bytes.{Text, every, colon, hasByte, inOrder, In, Ascending}
+use Rattle.meaning.specs.Bytes.{Text, every, byte, colon, hasByte, inOrder, In, Ascending}
 use Rattle.meaning.specs.Limits.{mappedBytes, rowListBytes, specCount, itemCount, decimalDigits}
 use Rattle.meaning.specs.Spec.{Answer, accepted, Spec, one, two, sidesOf}
 use Rattle.meaning.specs.Prefix.{GroupPrefixes}
@@ -92,7 +92,7 @@ RowNumbersFit =
 -- the number that digits spell, after those before them
 abbrev pub spelledAfter : ℕ → Text → ℕ
 spelledAfter n [] = n
-spelledAfter n (x ∷ s) = spelledAfter (n * 10 + (x - 48)) s
+spelledAfter n (x ∷ s) = spelledAfter (n * 10 + (x - byte "0")) s
 
 -- a printed number spells itself
 abbrev pub DecimalReads : Type 0
