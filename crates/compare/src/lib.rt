@@ -11,7 +11,7 @@ use word::half;
 use word::word;
 
 // s begins with p, which is no longer, byte by byte.
-fn begins_by_bytes(s: &[u8], p: &[u8]) -> bool
+fn begins_by_bytes(p: &[u8], s: &[u8]) -> bool
     requires { ⌜ length (now p) ≤ length (now s) ⌝ }
     ensures { λ r. ⌜ r ≡ begins (now (p .entry)) (now (s .entry)) ⌝ }
 {
@@ -26,7 +26,7 @@ fn begins_by_bytes(s: &[u8], p: &[u8]) -> bool
 }
 
 // Of s and p, the four bytes from i on are the same.
-fn four_agree(s: &[u8], p: &[u8], i: usize) -> bool
+fn four_agree(p: &[u8], s: &[u8], i: usize) -> bool
     requires { ⌜ (i + 4 ≤ length (now s)) × (i + 4 ≤ length (now p)) ⌝ }
     ensures { λ r. ⌜ begins (drop i (now (p .entry))) (drop i (now (s .entry))) ≡ (r and begins (drop (i + 4) (now (p .entry))) (drop (i + 4) (now (s .entry)))) ⌝ }
 {
@@ -34,18 +34,18 @@ fn four_agree(s: &[u8], p: &[u8], i: usize) -> bool
 }
 
 // s begins with p, which has four bytes to seven: the last four decide with the first four.
-fn begins_by_fours(s: &[u8], p: &[u8]) -> bool
+fn begins_by_fours(p: &[u8], s: &[u8]) -> bool
     requires { ⌜ (4 ≤ length (now p)) × (length (now p) < 8) × (length (now p) ≤ length (now s)) ⌝ }
     ensures { λ r. ⌜ r ≡ begins (now (p .entry)) (now (s .entry)) ⌝ }
 {
-    if !four_agree(s, p, p.len() - 4) {
+    if !four_agree(p, s, p.len() - 4) {
         return false;
     }
-    four_agree(s, p, 0)
+    four_agree(p, s, 0)
 }
 
 // Of s and p, the eight bytes from i on are the same.
-fn eight_agree(s: &[u8], p: &[u8], i: usize) -> bool
+fn eight_agree(p: &[u8], s: &[u8], i: usize) -> bool
     requires { ⌜ (i + 8 ≤ length (now s)) × (i + 8 ≤ length (now p)) ⌝ }
     ensures { λ r. ⌜ begins (drop i (now (p .entry))) (drop i (now (s .entry))) ≡ (r and begins (drop (i + 8) (now (p .entry))) (drop (i + 8) (now (s .entry)))) ⌝ }
 {
@@ -53,17 +53,17 @@ fn eight_agree(s: &[u8], p: &[u8], i: usize) -> bool
 }
 
 // s begins with p, which has eight bytes or more: the last eight, where names that begin alike differ, decide with each eight before.
-fn begins_by_eights(s: &[u8], p: &[u8]) -> bool
+fn begins_by_eights(p: &[u8], s: &[u8]) -> bool
     requires { ⌜ (8 ≤ length (now p)) × (length (now p) ≤ length (now s)) ⌝ }
     ensures { λ r. ⌜ r ≡ begins (now (p .entry)) (now (s .entry)) ⌝ }
 {
     let last = p.len() - 8;
-    if !eight_agree(s, p, last) {
+    if !eight_agree(p, s, last) {
         return false;
     }
     let mut i = 0;
     while i < last {
-        if !eight_agree(s, p, i) {
+        if !eight_agree(p, s, i) {
             return false;
         }
         i += 8;
@@ -72,7 +72,7 @@ fn begins_by_eights(s: &[u8], p: &[u8]) -> bool
 }
 
 // s begins with p.
-pub fn begins(s: &[u8], p: &[u8]) -> bool
+pub fn begins(p: &[u8], s: &[u8]) -> bool
     ensures { λ r. ⌜ r ≡ begins (now (p .entry)) (now (s .entry)) ⌝ }
 {
     let n = p.len();
@@ -80,12 +80,12 @@ pub fn begins(s: &[u8], p: &[u8]) -> bool
         return false;
     }
     if n < 4 {
-        return begins_by_bytes(s, p);
+        return begins_by_bytes(p, s);
     }
     if n < 8 {
-        return begins_by_fours(s, p);
+        return begins_by_fours(p, s);
     }
-    begins_by_eights(s, p)
+    begins_by_eights(p, s)
 }
 
 // s is p.
@@ -95,16 +95,16 @@ pub fn same(s: &[u8], p: &[u8]) -> bool
     if s.len() != p.len() {
         return false;
     }
-    begins(s, p)
+    begins(p, s)
 }
 
 // s ends with p.
-pub fn ends(s: &[u8], p: &[u8]) -> bool
+pub fn ends(p: &[u8], s: &[u8]) -> bool
     ensures { λ r. ⌜ r ≡ ends (now (p .entry)) (now (s .entry)) ⌝ }
 {
     if s.len() < p.len() {
         return false;
     }
     let at = s.len() - p.len();
-    begins(&s[at..], p)
+    begins(p, &s[at..])
 }

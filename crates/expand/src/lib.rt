@@ -41,8 +41,8 @@ pub enum Yield {
 fn name_yield(t: &[u8], at: usize) -> Yield
     ensures { λ r. ⌜ r ≡ yieldWithout at (now (t .entry)) ⌝ }
 {
-    if compare::begins(t, b"refs/") {
-        if text::has_byte(&t[5..], b'/') {
+    if compare::begins(b"refs/", t) {
+        if text::has_byte(b'/', &t[5..]) {
             return Yield::Nothing;
         }
         return Yield::One(Side::Part(at, t.len()));

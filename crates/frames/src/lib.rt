@@ -129,7 +129,7 @@ fn has_frame(k: usize, m: usize, name: &[u8]) -> bool
     let f = frame_of(k);
     let leading = f.0;
     let n = f.1;
-    if !compare::begins(name, &leading[..n]) {
+    if !compare::begins(&leading[..n], name) {
         return false;
     }
     let rest = &name[n..];
@@ -143,7 +143,7 @@ fn has_pieces(k: usize, n: usize, t: &[u8], name: &[u8]) -> bool
     requires { ⌜ (k < 6) × (n ≡ length (frameAt k .leading)) × (length (now name) ≡ length (now t) + adds k) ⌝ }
     ensures { λ r. ⌜ r ≡ same (now (name .entry)) (candidate k (now (t .entry))) ⌝ }
 {
-    if !compare::begins(&name[n..], t) {
+    if !compare::begins(t, &name[n..]) {
         return false;
     }
     has_frame(k, t.len(), name)

@@ -17,7 +17,7 @@ fn before_end(name: &[u8], from: usize, b: &[u8]) -> Captured
     requires { ⌜ from ≤ length (now name) ⌝ }
     ensures { λ r. ⌜ (captureMeant (now (name .entry)) r ≡ before (now (b .entry)) (drop from (now (name .entry)))) × CaptureWithin (length (now (name .entry))) r ⌝ }
 {
-    if !compare::ends(&name[from..], b) {
+    if !compare::ends(b, &name[from..]) {
         return Captured::None;
     }
     let rest = name.len() - from;
@@ -29,7 +29,7 @@ fn before_end(name: &[u8], from: usize, b: &[u8]) -> Captured
 pub fn capture(a: &[u8], b: &[u8], name: &[u8]) -> Captured
     ensures { λ r. ⌜ (captureMeant (now (name .entry)) r ≡ capture (now (a .entry)) (now (b .entry)) (now (name .entry))) × CaptureWithin (length (now (name .entry))) r ⌝ }
 {
-    if !compare::begins(name, a) {
+    if !compare::begins(a, name) {
         return Captured::None;
     }
     before_end(name, a.len(), b)

@@ -29,7 +29,7 @@ pub struct Lengths {
 pub fn is_full(t: &[u8]) -> bool
     ensures { λ r. ⌜ r ≡ isFull (now (t .entry)) ⌝ }
 {
-    if compare::begins(t, b"refs/") {
+    if compare::begins(b"refs/", t) {
         return true;
     }
     compare::same(t, b"HEAD")

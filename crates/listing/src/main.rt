@@ -19,7 +19,7 @@ fn say(t: &[u8]) {
 
 // Prints a listing. Its header does not begin so: this is 17, the one refusal of lists that were gathered.
 fn show_printed(t: &[u8]) {
-    if compare::begins(t, b"refused ") {
+    if compare::begins(b"refused ", t) {
         say(b"the listing is above 65,536 bytes\n");
         return;
     }

@@ -16,14 +16,14 @@ use parse::types::Side;
 fn text_needle(negative: bool, t: &[u8]) -> Needle
     ensures { λ r. ⌜ NeedleOf negative (now (t .entry)) r ⌝ }
 {
-    let star = text::find(t, b'*');
+    let star = text::find(b'*', t);
     if star < t.len() {
         return Needle::Glob(star);
     }
     if negative {
         return Needle::FullName;
     }
-    if compare::begins(t, b"refs/") {
+    if compare::begins(b"refs/", t) {
         return Needle::FullName;
     }
     if hex::object_id(t) {
@@ -67,16 +67,16 @@ pub(crate) fn needle_of(specs: &[u8], negative: bool, side: Side) -> Needle
 fn lead_of(t: &[u8]) -> Lead
     ensures { λ r. ⌜ completed (now (t .entry)) ≡ ledText r (now (t .entry)) ⌝ }
 {
-    if compare::begins(t, b"refs/") {
+    if compare::begins(b"refs/", t) {
         return Lead::AsIs;
     }
     if hex::object_id(t) {
         return Lead::HeadsDigits;
     }
-    if compare::begins(t, b"tags/") {
+    if compare::begins(b"tags/", t) {
         return Lead::Refs;
     }
-    if compare::begins(t, b"remotes/") {
+    if compare::begins(b"remotes/", t) {
         return Lead::Refs;
     }
     Lead::Heads
@@ -86,7 +86,7 @@ fn lead_of(t: &[u8]) -> Lead
 fn text_target(t: &[u8]) -> Target
     ensures { λ r. ⌜ TargetOf (now (t .entry)) r ⌝ }
 {
-    let star = text::find(t, b'*');
+    let star = text::find(b'*', t);
     if star < t.len() {
         return Target::Pattern(star);
     }

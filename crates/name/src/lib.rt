@@ -32,7 +32,7 @@ fn rest_of_lock(s: &[u8]) -> bool
     if compare::same(s, b"lock") {
         return true;
     }
-    compare::begins(s, b"lock/")
+    compare::begins(b"lock/", s)
 }
 
 // 1, 3 and 7: what stands from `at` on may follow a dot.

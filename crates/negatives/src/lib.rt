@@ -41,7 +41,7 @@ fn text_negative(specs: &[u8], at: usize, len: usize) -> Negative
     ensures { λ r. ⌜ r ≡ textNegative (now (specs .entry)) at len ⌝ }
 {
     let end = at + len;
-    let star = text::find(&specs[at..end], b'*');
+    let star = text::find(b'*', &specs[at..end]);
     if star == len {
         return Negative::Literal { at, len };
     }

@@ -38,12 +38,12 @@ fn two_begin(p: &[u8], a: &[u8], b: &[u8]) -> bool
     ensures { λ r. ⌜ r ≡ begins (now (p .entry)) (now (a .entry) ++ now (b .entry)) ⌝ }
 {
     if p.len() <= a.len() {
-        return compare::begins(a, p);
+        return compare::begins(p, a);
     }
-    if !compare::begins(b, &p[a.len()..]) {
+    if !compare::begins(&p[a.len()..], b) {
         return false;
     }
-    compare::begins(p, a)
+    compare::begins(a, p)
 }
 
 // Three pieces begin with p.
@@ -51,12 +51,12 @@ fn pieces_begin(p: &[u8], a: &[u8], b: &[u8], c: &[u8]) -> bool
     ensures { λ r. ⌜ r ≡ begins (now (p .entry)) (now (a .entry) ++ (now (b .entry) ++ now (c .entry))) ⌝ }
 {
     if p.len() <= a.len() {
-        return compare::begins(a, p);
+        return compare::begins(p, a);
     }
     if !two_begin(&p[a.len()..], b, c) {
         return false;
     }
-    compare::begins(p, a)
+    compare::begins(a, p)
 }
 
 // Two pieces end with q.
@@ -64,12 +64,12 @@ fn two_end(q: &[u8], a: &[u8], b: &[u8]) -> bool
     ensures { λ r. ⌜ r ≡ ends (now (q .entry)) (now (a .entry) ++ now (b .entry)) ⌝ }
 {
     if q.len() <= b.len() {
-        return compare::ends(b, q);
+        return compare::ends(q, b);
     }
-    if !compare::ends(a, &q[..q.len() - b.len()]) {
+    if !compare::ends(&q[..q.len() - b.len()], a) {
         return false;
     }
-    compare::ends(q, b)
+    compare::ends(b, q)
 }
 
 // Three pieces end with q.
@@ -77,12 +77,12 @@ fn pieces_end(q: &[u8], a: &[u8], b: &[u8], c: &[u8]) -> bool
     ensures { λ r. ⌜ r ≡ ends (now (q .entry)) ((now (a .entry) ++ now (b .entry)) ++ now (c .entry)) ⌝ }
 {
     if q.len() <= c.len() {
-        return compare::ends(c, q);
+        return compare::ends(q, c);
     }
     if !two_end(&q[..q.len() - c.len()], a, b) {
         return false;
     }
-    compare::ends(q, c)
+    compare::ends(c, q)
 }
 
 // Three pieces are t: its length decides first, and then the second piece, where texts that begin alike differ.
@@ -94,13 +94,13 @@ pub(crate) fn pieces_same(t: &[u8], a: &[u8], b: &[u8], c: &[u8]) -> bool
     }
     let i = a.len();
     let j = i + b.len();
-    if !compare::begins(&t[i..], b) {
+    if !compare::begins(b, &t[i..]) {
         return false;
     }
-    if !compare::begins(t, a) {
+    if !compare::begins(a, t) {
         return false;
     }
-    compare::begins(&t[j..], c)
+    compare::begins(c, &t[j..])
 }
 
 // Three pieces match a text t whose star stands at a place: its start and its end do not overlap.

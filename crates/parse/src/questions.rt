@@ -84,7 +84,7 @@ fn text_refusal(first: u64, free: bool, t: &[u8]) -> u64
     ensures { λ r. ⌜ r ≡ textRefusal first free (now (t .entry)) ⌝ }
 {
     let next = first + 1;
-    let stars = text::count(t, b'*');
+    let stars = text::count(b'*', t);
     match stars {
         0 => name_refusal(next, free, t),
         1 => pattern_refusal(next, t),

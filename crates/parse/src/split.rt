@@ -109,7 +109,7 @@ pub(crate) fn split(op: u64, spec: &[u8]) -> Sides
 {
     let m = mode_of(spec);
     let at = sign_length(m);
-    let past = text::last::past_last(&spec[at..], b':');
+    let past = text::last::past_last(b':', &spec[at..]);
     if past == 0 {
         let spec = one_side(op, m, spec, at);
         return Sides { spec, colon: false };

@@ -23,7 +23,7 @@ pub(crate) fn bytes_field(told: &[u8], at: usize, want: &[u8]) -> Next
     requires { ⌜ at ≤ length (now told) ⌝ }
     ensures { λ r. ⌜ r ≡ fieldAt (now (told .entry)) at (now (want .entry)) ⌝ }
 {
-    if compare::begins(&told[at..], want) {
+    if compare::begins(want, &told[at..]) {
         return Next::At(at + want.len());
     }
     Next::Differs

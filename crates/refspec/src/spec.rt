@@ -129,17 +129,17 @@ fn prefix_length(t: &[u8]) -> usize
     if compare::same(t, b"HEAD") {
         return t.len();
     }
-    if !compare::begins(t, b"refs/") {
+    if !compare::begins(b"refs/", t) {
         return 0;
     }
-    let star = text::find(t, b'*');
+    let star = text::find(b'*', t);
     if star == t.len() {
         return star;
     }
-    if compare::begins(t, b"refs/*") {
+    if compare::begins(b"refs/*", t) {
         return 0;
     }
-    if text::has_byte(t, b']') {
+    if text::has_byte(b']', t) {
         return 0;
     }
     star

@@ -47,7 +47,7 @@ fn show_lines(s: &[u8])
     let mut at = 0;
     let mut number: u64 = 1;
     while at < s.len() {
-        let end = text::find_from(s, at, b'\n');
+        let end = text::find_from(b'\n', s, at);
         show_line(number, &s[at..end]);
         at = end + 1;
         number += 1;

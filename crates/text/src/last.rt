@@ -90,7 +90,7 @@ fn sixteen_last(s: &[u8], i: usize, b: u8) -> usize
 }
 
 // How many bytes s has up to its last b and with it; 0 where there is none. Looked for from the end, sixteen bytes a turn.
-pub fn past_last(s: &[u8], b: u8) -> usize
+pub fn past_last(b: u8, s: &[u8]) -> usize
     ensures { λ r. ⌜ (r ≡ pastLast b (now (s .entry))) × (r ≤ length (now (s .entry))) ⌝ }
 {
     if s.len() < 16 {

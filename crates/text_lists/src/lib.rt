@@ -174,7 +174,7 @@ pub fn gather(input: &[u8], specs: &mut [u8], items: &mut [u8]) -> Gathered
         names_size: 0,
     };
     while at < input.len() {
-        let end = text::find_from(input, at, b'\n');
+        let end = text::find_from(b'\n', input, at);
         so = add_line(&input[at..end], specs, items, so);
         if so.reason != 0 {
             return Gathered {

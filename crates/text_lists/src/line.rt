@@ -43,16 +43,16 @@ pub fn classify(line: &[u8]) -> Line
     if all_blank(line) {
         return Line::Nothing;
     }
-    if compare::begins(line, b"#") {
+    if compare::begins(b"#", line) {
         return Line::Nothing;
     }
-    if compare::begins(line, b"fetch ") {
+    if compare::begins(b"fetch ", line) {
         return Line::Fetch(6);
     }
-    if compare::begins(line, b"push ") {
+    if compare::begins(b"push ", line) {
         return Line::Push(5);
     }
-    if compare::begins(line, b"name ") {
+    if compare::begins(b"name ", line) {
         return Line::Name(5);
     }
     Line::Unknown

@@ -10,10 +10,10 @@ use Rattle.compare.proofs.begins_by_bytes.Statement.{statement}
 use Rattle.compare.proofs.begins_by_bytes.Tie as tie
 
 abbrev Inv-loop : tie.InvT-loop
-Inv-loop s p i₀ i = (i ≤ length p) × (begins (drop i p) (drop i s) ≡ begins p s)
+Inv-loop p s i₀ i = (i ≤ length p) × (begins (drop i p) (drop i s) ≡ begins p s)
 
 abbrev μ-loop : tie.MeasureT-loop
-μ-loop s p i₀ i = length p - i
+μ-loop p s i₀ i = length p - i
 
 loop-holds : tie.Need-loop-holds Inv-loop μ-loop
 loop-holds c = (omega arith, refl)

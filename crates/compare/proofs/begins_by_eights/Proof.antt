@@ -9,10 +9,10 @@ use Rattle.compare.proofs.begins_by_eights.Statement.{statement}
 use Rattle.compare.proofs.begins_by_eights.Tie as tie
 
 abbrev Inv-loop : tie.InvT-loop
-Inv-loop s p last i₀ i = begins (drop i p) (drop i s) ≡ begins p s
+Inv-loop p s last i₀ i = begins (drop i p) (drop i s) ≡ begins p s
 
 abbrev μ-loop : tie.MeasureT-loop
-μ-loop s p last i₀ i = last - i
+μ-loop p s last i₀ i = last - i
 
 sub-last : tie.Need-sub-last Inv-loop μ-loop
 sub-last c = search needs

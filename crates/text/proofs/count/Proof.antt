@@ -12,10 +12,10 @@ use Rattle.text.proofs.count.Statement.{statement}
 use Rattle.text.proofs.count.Tie as tie
 
 abbrev Inv-loop : tie.InvT-loop
-Inv-loop s b n₀ i₀ n i = (i ≤ length s) × (n ≤ i) × (n + count b (drop i s) ≡ count b s)
+Inv-loop b s n₀ i₀ n i = (i ≤ length s) × (n ≤ i) × (n + count b (drop i s) ≡ count b s)
 
 abbrev μ-loop : tie.MeasureT-loop
-μ-loop s b n₀ i₀ n i = length s - i
+μ-loop b s n₀ i₀ n i = length s - i
 
 loop-holds : tie.Need-loop-holds Inv-loop μ-loop
 loop-holds c = (omega arith, omega arith, zero-add _)

@@ -10,10 +10,10 @@ use Rattle.text.proofs.find_from.Statement.{statement}
 use Rattle.text.proofs.find_from.Tie as tie
 
 abbrev Inv-loop : tie.InvT-loop
-Inv-loop s from b i₀ i = (i ≤ length s) × (i + firstAt b (drop i s) ≡ from + firstAt b (drop from s))
+Inv-loop b s from i₀ i = (i ≤ length s) × (i + firstAt b (drop i s) ≡ from + firstAt b (drop from s))
 
 abbrev μ-loop : tie.MeasureT-loop
-μ-loop s from b i₀ i = length s - i
+μ-loop b s from i₀ i = length s - i
 
 loop-holds : tie.Need-loop-holds Inv-loop μ-loop
 loop-holds c = (omega arith, refl)

@@ -12,10 +12,10 @@ use Rattle.text.proofs.last.past_last.Statement.{statement}
 use Rattle.text.proofs.last.past_last.Tie as tie
 
 abbrev Inv-loop : tie.InvT-loop
-Inv-loop s b i₀ i = (i ≤ length s) × (pastLast b (take i s) ≡ pastLast b s)
+Inv-loop b s i₀ i = (i ≤ length s) × (pastLast b (take i s) ≡ pastLast b s)
 
 abbrev μ-loop : tie.MeasureT-loop
-μ-loop s b i₀ i = i
+μ-loop b s i₀ i = i
 
 past-last-by-bytes-requires : tie.Need-past-last-by-bytes-requires Inv-loop μ-loop
 past-last-by-bytes-requires c κs = search needs
