@@ -105,7 +105,8 @@ fn sorted_run_size(rows: &[u8], run: &mut [u32], scratch: &mut [u32]) -> usize
     counted_size(rows, run, heads.count, heads.size)
 }
 
-// How many bytes the conflict of a run takes; 0 where all its rows have one source. The run is left as it was.
+// How many bytes the conflict of a run takes; 0 where all its rows have one source. The run is left as it was; what `scratch` holds
+// afterwards is left open.
 pub fn run_size(rows: &[u8], run: &mut [u32], scratch: &mut [u32]) -> usize
     requires { ⌜ OneRun (now rows) (now run) × (0 < length (now run)) × (length (now rows) ≤ rowListBytes) × (length (now run) ≤ rowListBytes) × (length (now run) ≤ 2 * length (now scratch) + 1) ⌝ }
     ensures { λ r. ⌜ (r ≡ length (runBytes (now (rows .entry)) (now (run .entry)))) × (r ≤ length (now (run .entry)) * conflictRowMost) × (now (run .exit) ≡ now (run .entry)) ⌝ }
@@ -119,7 +120,8 @@ pub fn run_size(rows: &[u8], run: &mut [u32], scratch: &mut [u32]) -> usize
     sorted_run_size(rows, run, scratch)
 }
 
-// Writes the conflict of a run, if its rows have different sources, and answers the place after it.
+// Writes the conflict of a run, if its rows have different sources, and answers the place after it. The run is used up: what it holds
+// afterwards, and what `scratch` holds, is left open.
 pub fn put_run(
     out: &mut [u8],
     to: usize,

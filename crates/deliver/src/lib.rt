@@ -19,8 +19,8 @@ use rows::print_rows;
 // Room for an input and one byte above its limit, so that a longer one shows.
 pub const INPUT_ROOM: usize = PROGRAM_BYTES + 1;
 
-// Prints what a spec list and an item list give at the start of `out`, and answers how many bytes it printed; their rows are put together
-// in `rows`.
+// Prints what a spec list and an item list give at the start of `out`, and answers how many bytes it printed. `rows` is scratch, for the row
+// list; what it holds afterwards is left open.
 pub fn print_lists(specs: &[u8], items: &[u8], rows: &mut [u8], out: &mut [u8]) -> usize
     requires { ⌜ LongBuffers (now rows) (now out) ⌝ }
     ensures { λ r. ⌜ Prints (output (printed (now (specs .entry)) (now (items .entry)))) (now (out .entry)) (now (out .exit)) r ⌝ }
@@ -45,8 +45,8 @@ fn print_parts(input: &[u8], at: usize, n: usize, rows: &mut [u8], out: &mut [u8
     print_lists(&input[at..end], &input[end..], rows, out)
 }
 
-// Prints what the input gives at the start of `out`, and answers how many bytes it printed. `rows` is for the row list; what it holds
-// afterwards is left open.
+// Prints what the input gives at the start of `out`, and answers how many bytes it printed. `rows` is scratch, for the row list; what it
+// holds afterwards is left open.
 pub fn deliver(input: &[u8], rows: &mut [u8], out: &mut [u8]) -> usize
     requires { ⌜ (length (now rows) ≡ programBytes) × (programBytes ≤ length (now out)) ⌝ }
     ensures { λ r. ⌜ (now (out .exit) ≡ splice (now (out .entry)) 0 (deliveries (now (input .entry)))) × (r ≡ length (deliveries (now (input .entry)))) × (r ≤ programBytes) ⌝ }

@@ -2,14 +2,14 @@
 use mathlib.Core.Path.{_≡_, refl, sym, ap, _∙_, subst}
 use mathlib.Core.Bool.{Bool, true, false, cond}
 use mathlib.Core.Logic.{_⊎_, inl, inr}
-use mathlib.Core.List.{List, [], _∷_}
+use mathlib.Core.List.{List, [], _∷_, _++_, append-assoc, append-nil}
 use Prim.Native.Nat.{ℕ, zero, suc, _+_, _*_, _≤_, _<_}
-use native.Mathlib.Nat.{eq-or-lt-of-le}
+use native.Mathlib.Nat.{eq-or-lt-of-le, zero-add}
 use native.Mathlib.Numerals.{add-one}
 use native.Mathlib.Omega.{arith}
 use borrow.Author.Tests.{lt-ltb, ltb-true, ltb-false, leb-true, leb-false}
 use lib.Dec.{leb, ltb}
-use lib.ListN.{length, getD, set, take, drop, length-set}
+use lib.ListN.{length, getD, set, take, drop, length-set, length-append}
 use lib.Seq.{getD-set-same, getD-set-other}
 use Rattle.meaning.specs.Bytes.{Text}
 use Rattle.meaning.specs.Limits.{nameBytes, itemListBytes, itemCount}
@@ -17,6 +17,8 @@ use Rattle.meaning.specs.Number as meaning
 use Rattle.meaning.specs.Spec.{accepted}
 use Rattle.meaning.specs.Lists.{itemRecord, readItems}
 use Rattle.promises.proofs.Members.{names-count}
+use Rattle.buffer.specs.Splice.{splice}
+use Rattle.buffer.proofs.Splices.{splice-none, splice-next, splice-byte}
 use Rattle.parse.specs.Places.{partAt}
 use Rattle.parse.proofs.Parts.{part-length}
 use Rattle.list.specs.declared.cursor.Cursor.{Cursor}
@@ -25,7 +27,7 @@ use Rattle.list.specs.declared.cursor.Step.the-variants.{Record, End, Re
 use Rattle.list.specs.declared.items.Checked.{Checked}
 use Rattle.list.specs.Cursor.{placedStep, stepAt}
 use Rattle.list.specs.Checked.{checked, itemAt}
-use Rattle.list.specs.Places.{placesRoom, PlacesOf, PlacesRead}
+use Rattle.list.specs.Places.{placesRoom, placesFrom, PlacesOf, PlacesRead}
 use Rattle.list.proofs.Texts.{TextAt, stands, malformed, text-at}
 use Rattle.list.proofs.ItemRecords.{item-beyond, item-malformed, item-long, item-read}
 use Rattle.list.proofs.Steps.{step-taken, ItemsLeft, items-left, ItemNext, items-next}
@@ -110,6 +112,21 @@ standing-none items places at e =
       short = λ j h. absurd (omega arith);
     })
 
+-- where the first n names stand was written, and then those from a place on follow
+pub record Written (items : Text) (first places : List ℕ) (at n : ℕ) : Type 0 where
+  pub done : List ℕ
+  pub puts : places ≡ splice first 0 done
+  pub long : length done ≡ 2 * n
+  pub rest : (m : ℕ) → placesFrom items (n + m) 0 ≡ done ++ placesFrom items m at
+
+pub written-none : (items : Text) (places : List ℕ) (at : ℕ) → at ≡ 0 → Written items places places at 0
+written-none items places at e = record { done = []; puts = sym (splice-none places 0); long = refl; rest = λ m. rw (e, zero-add m) }
+
+written-all : (items : Text) (first places : List ℕ) (at n : ℕ) → Written items first places at n → (k : ℕ) → k ≡ n → places ≡ splice first 0 (placesFrom items k 0)
+written-all items first places at n w k e =
+    let z : n + 0 ≡ k = omega arith in
+    w .puts ∙ ap (splice first 0) (sym (append-nil (w .done)) ∙ sym (w .rest 0) ∙ ap (λ (i : ℕ). placesFrom items i 0) z)
+
 -- two numbers are noted for name n
 module _ (places : List ℕ) (n start len : ℕ) (room : 2 * n + 1 < length places) where
   abbrev after : List ℕ
@@ -143,6 +160,21 @@ module _ (items : Text) (at n : ℕ) (w : Step) (ew : w ≡ itemAt n items at) w
       -- there is room for it
       pub places-room : 2 * n + 2 ≤ length places
       places-room = omega (arith, same, x .few)
+
+      pub written-more : Written items first places at n → (new : List ℕ) → new ≡ set (set places (2 * n) start) (2 * n + 1) len → Written items first new (next .at) (n + 1)
+      written-more d new q =
+          let one : set places (2 * n) start ≡ splice places (2 * n) (start ∷ []) = splice-byte places (2 * n) start (omega (arith, places-room)) in
+          let two : set (set places (2 * n) start) (2 * n + 1) len ≡ splice (set places (2 * n) start) (2 * n + 1) (len ∷ []) = splice-byte (set places (2 * n) start) (2 * n + 1) len (second-room places n start places-room) in
+          let both : splice (splice places (2 * n) (start ∷ [])) (2 * n + 1) (len ∷ []) ≡ splice places (2 * n) (start ∷ len ∷ []) = splice-next places (2 * n) (start ∷ []) (len ∷ []) (2 * n + 1) (omega (arith, places-room)) refl in
+          let more : splice (splice first 0 (d .done)) (2 * n) (start ∷ len ∷ []) ≡ splice first 0 (d .done ++ (start ∷ len ∷ [])) = splice-next first 0 (d .done) (start ∷ len ∷ []) (2 * n) (omega (arith, d .long, same, places-room)) (omega (arith, d .long)) in
+          record {
+            done = d .done ++ (start ∷ len ∷ []);
+            puts = q ∙ two ∙ ap (λ (l : List ℕ). splice l (2 * n + 1) (len ∷ [])) one ∙ both ∙ ap (λ (l : List ℕ). splice l (2 * n) (start ∷ len ∷ [])) (d .puts) ∙ more;
+            long = omega (arith, length-append (d .done) (start ∷ len ∷ []), d .long);
+            rest = λ m.
+                let k : n + 1 + m ≡ n + suc m = omega arith in
+                ap (λ (i : ℕ). placesFrom items i 0) k ∙ d .rest (suc m) ∙ rw (x .step) (sym (append-assoc (d .done) (start ∷ len ∷ []) (placesFrom items m (next .at))));
+          }
 
       pub standing-more : (new : List ℕ) → new ≡ set (set places (2 * n) start) (2 * n + 1) len → Standing items new (next .at) (n + 1)
       standing-more new q =
@@ -181,7 +213,7 @@ module _ (items : Text) (at n : ℕ) (w : Step) (ew : w ≡ itemAt n items at) w
           short-at j (inr l) = rw (else-same places n start len room (2 * j + 1) (omega arith)) (s .short j l)
 
   -- the list is read
-  module _ (places : List ℕ) (s : Standing items places at n) (first : List ℕ) (same : length places ≡ length first) (long : placesRoom ≤ length first) (small : length items ≤ itemListBytes) (p : Reading itemRecord items at n) where
+  module _ (places : List ℕ) (s : Standing items places at n) (first : List ℕ) (same : length places ≡ length first) (long : placesRoom ≤ length first) (small : length items ≤ itemListBytes) (p : Reading itemRecord items at n) (d : Written items first places at n) where
     -- the names of a list that is accepted, which are so many, stand there
     noted : (k : ℕ) → k ≤ n → Passed (readItems items) k → PlacesOf items places k
     noted k l q =
@@ -195,17 +227,17 @@ module _ (items : Text) (at n : ℕ) (w : Step) (ew : w ≡ itemAt n items at) w
           short = λ j h. s .short j (omega arith);
         }
 
-    read : (r : Checked) → r .count ≤ n → r ≡ checked (readItems items) → PlacesRead items first places r
-    read r l q = record { answer = q; noted = λ z. noted (r .count) l (items-passed items r q z); size = same }
+    read : (r : Checked) → r .count ≤ n → r .count + r .«record» ≡ n → r ≡ checked (readItems items) → PlacesRead items first places r
+    read r l k q = record { answer = q; written = written-all items first places at n d (r .count + r .«record») k; noted = λ z. noted (r .count) l (items-passed items r q z); size = same }
 
     -- at its end
     pub standing-end : w ≡ End → PlacesRead items first places (record { refusal = 0; «record» = 0; count = n })
-    standing-end e = read (record { refusal = 0; «record» = 0; count = n }) (omega arith) (items-are items (record { refusal = 0; «record» = 0; count = n }) small (items-all items at n w ew e p))
+    standing-end e = read (record { refusal = 0; «record» = 0; count = n }) (omega arith) (omega arith) (items-are items (record { refusal = 0; «record» = 0; count = n }) small (items-all items at n w ew e p))
 
     -- or a record is refused
     pub standing-stop : (m : ℕ) → w ≡ Refused m → PlacesRead items first places (record { refusal = m; «record» = n; count = 0 })
-    standing-stop m e = read (record { refusal = m; «record» = n; count = 0 }) (omega arith) (items-are items (record { refusal = m; «record» = n; count = 0 }) small (items-stop items at n w ew m e p))
+    standing-stop m e = read (record { refusal = m; «record» = n; count = 0 }) (omega arith) (omega arith) (items-are items (record { refusal = m; «record» = n; count = 0 }) small (items-stop items at n w ew m e p))
 
 -- it is too long
 pub standing-long : (items : Text) (places : List ℕ) → itemListBytes < length items → PlacesRead items places places (record { refusal = 12; «record» = 0; count = 0 })
-standing-long items places h = record { answer = items-too-long items h; noted = λ z. absurd (omega arith); size = refl }
+standing-long items places h = record { answer = items-too-long items h; written = sym (splice-none places 0); noted = λ z. absurd (omega arith); size = refl }

@@ -55,7 +55,8 @@ fn each_place(list: &[u8], places: &mut [u16]) -> Checked
     }
 }
 
-// Reads an item list, and notes where each name begins and how many bytes it has, two numbers for each.
+// Reads an item list, and notes where each name begins and how many bytes it has, two numbers for each. Where a record is refused, the names
+// before it are noted.
 pub fn read_places(list: &[u8], places: &mut [u16]) -> Checked
     requires { ⌜ placesRoom ≤ length (now places) ⌝ }
     ensures { λ r. ⌜ PlacesRead (now (list .entry)) (now (places .entry)) (now (places .exit)) r ⌝ }

@@ -76,6 +76,9 @@ module _ (op : ℕ) (specs items : Text) (field spec : ℕ) (p : Part) (is : p �
   pub view-number : p .refusal ≡ meaning.viewNumbers (meaning.sourceView op specs items field spec) .refusal
   view-number = ap (λ (x : Part). x .refusal) is
 
+  pub view-record : p .«record» ≡ meaning.viewNumbers (meaning.sourceView op specs items field spec) .recordNumber
+  view-record = ap (λ (x : Part). x .«record») is
+
   -- a refused view has no bytes
   pub view-none : (r : Text) → (p .refusal ≡ 0 → ⊥) → r ≡ [] → r ≡ meaning.viewText (meaning.sourceView op specs items field spec) specs items
   view-none r z e = e ∙ go (meaning.sourceView op specs items field spec) is

@@ -188,7 +188,8 @@ fn bytes(list: &[u8], start: u64, len: u64) -> &[u8]
     &list[at..end]
 }
 
-// The bytes of that part, out of the list that the item field chooses; the number is the refusal's, and a refused view has no bytes.
+// The bytes of that part, out of the list that the item field chooses; the numbers are the refusal's and the record's that it carries, and
+// a refused view has no bytes.
 pub fn view<'a>(
     op: u64,
     specs: &'a [u8],
@@ -196,12 +197,15 @@ pub fn view<'a>(
     item_field: u64,
     spec: u64,
     number: &mut u64,
+    record: &mut u64,
 ) -> &'a [u8]
     ensures { λ r. ⌜ (now r ≡ viewText (sourceView op (now (specs .entry)) (now (items .entry)) «item_field» spec) (now (specs .entry)) (now (items .entry)))
-        × (now (number .exit) ≡ viewNumbers (sourceView op (now (specs .entry)) (now (items .entry)) «item_field» spec) .refusal) ⌝ }
+        × (now (number .exit) ≡ viewNumbers (sourceView op (now (specs .entry)) (now (items .entry)) «item_field» spec) .refusal)
+        × (now («record» .exit) ≡ viewNumbers (sourceView op (now (specs .entry)) (now (items .entry)) «item_field» spec) .recordNumber) ⌝ }
 {
     let p = source(op, specs, items, item_field, spec);
     *number = p.refusal;
+    *record = p.record;
     if p.refusal != 0 {
         return bytes(items, 0, 0);
     }

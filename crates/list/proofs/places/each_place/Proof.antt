@@ -1,11 +1,11 @@
--- `list::places::each_place` meets its contract: the items are read as `each_item` reads them, and each is noted after those before it.
+-- `list::places::each_place` meets its contract: the items are read as `each_item` reads them, and where each stands is written after those before it.
 use mathlib.Core.Path.{_≡_, refl}
 use Prim.Native.Nat.{_-_}
 use lib.ListN.{length}
 use Rattle.meaning.specs.Lists.{itemRecord}
 use Rattle.list.proofs.Readings.{Reading}
 use Rattle.list.proofs.ItemSteps.{items-start, items-less, items-more}
-use Rattle.list.proofs.Standing.{Standing, standing-none, name-start, name-size, places-room, standing-more, standing-end, standing-stop}
+use Rattle.list.proofs.Standing.{Standing, Written, standing-none, written-none, name-start, name-size, places-room, standing-more, written-more, standing-end, standing-stop}
 use borrow.Author.Needs.{needs}
 use Rattle.list.proofs.places.each_place.Statement.{statement}
 use Rattle.list.proofs.places.each_place.Tie as tie
@@ -14,7 +14,7 @@ use Rattle.list.proofs.items.item_at.Reads as item-at-reads
 use Rattle.list.proofs.places.put_place.Reads as put-place-reads
 
 abbrev Inv-loop : tie.InvT-loop
-Inv-loop list places₀ c₀ count₀ places c count = Reading itemRecord list (c .at) count × Standing list places (c .at) count × (length places ≡ length places₀)
+Inv-loop list places₀ c₀ count₀ places c count = Reading itemRecord list (c .at) count × Standing list places (c .at) count × (length places ≡ length places₀) × Written list places₀ places (c .at) count
 
 abbrev μ-loop : tie.MeasureT-loop
 μ-loop list places₀ c₀ count₀ places c count = length list - c .at
@@ -23,7 +23,7 @@ new-requires : tie.Need-new-requires Inv-loop μ-loop
 new-requires c κs = search needs
 
 loop-holds : tie.Need-loop-holds Inv-loop μ-loop
-loop-holds c = (search items-start, search standing-none, refl)
+loop-holds c = (search items-start, search standing-none, refl, search written-none)
 
 item-at-requires : tie.Need-item-at-requires Inv-loop μ-loop
 item-at-requires c κs = search needs
@@ -41,7 +41,7 @@ loop-less : tie.Need-loop-less Inv-loop μ-loop
 loop-less c = search items-less
 
 loop-again : tie.Need-loop-again Inv-loop μ-loop
-loop-again c = (search items-more, search standing-more, search needs)
+loop-again c = (search items-more, search standing-more, search needs, search written-more)
 
 enum-told : tie.Need-enum-told Inv-loop μ-loop
 enum-told c = search needs
