@@ -14,6 +14,7 @@ use Rattle.match_row.specs.Asking.{Put}
 use Rattle.search.specs.Hits.{across, specGives, groupGives, objectsGive, specHits, groupHits, objectHits, hitBytes}
 use Rattle.search.specs.Noting.{PlacesIn, Adds, Good, AllGood}
 use Rattle.search.proofs.Across.{across-next, across-none}
+use Rattle.search.proofs.Notes.{adds-none}
 use Rattle.search.proofs.Given.{Gives, gives-none, gives-both, gives-good, spec-gives, group-gives, objects-give, spec-few-hits, objects-few-hits}
 use Rattle.match_group.specs.Listing.{firstBytes, firstHits, tableBytes, tableHits, Noted}
 
@@ -24,7 +25,7 @@ module _ (back : Bool) (specs : Text) (table : List ℕ) (group : ℕ) where
   first-none e = rw e
 
   pub first-no-hits : back ≡ true → (hits : List ℕ) → Adds hits 0 (firstHits back specs table group) hits 0
-  first-no-hits e hits = rw e (record { long = refl; adds = λ h. refl; before = λ h. h; fits = λ h. refl; kept = λ k a b. (a, refl) })
+  first-no-hits e hits = rw e (adds-none hits 0)
 
   pub first-objects : back ≡ false → (k : ℕ) → k ≡ length (objectsGive specs table group) → k ≡ length (firstBytes back specs table group)
   first-objects e k h = rw e h

@@ -144,7 +144,7 @@ module _ (t : Text) (k : ℕ) (m : Matcher) where
         )
 
     stored-ten : PutMatcher t k m (splice t (matcherNumbers * k) ten)
-    stored-ten = let z = ten-long in record { size = length-splice t (matcherNumbers * k) ten (omega arith); kept = stored-kept; there = stored-there }
+    stored-ten = let z = ten-long in record { written = refl; size = length-splice t (matcherNumbers * k) ten (omega arith); kept = stored-kept; there = stored-there }
 
   -- both fives tell the matcher, and the others stay
   pub stored : matcherNumbers * k + matcherNumbers ≤ length t → (u v : Text) → u ≡ splice t (matcherNumbers * k) source → v ≡ splice u (matcherNumbers * k + 5) destination → PutMatcher t k m v

@@ -1,8 +1,9 @@
 -- A matcher as ten numbers: three of its source, two of what it looks for, three of its destination and two of what that is.
 use Prim.Native.Nat.{ℕ, zero, suc, _+_, _*_}
 use mathlib.Core.Path.{_≡_}
-use mathlib.Core.List.{List, [], _∷_}
+use mathlib.Core.List.{List, [], _∷_, _++_}
 use lib.ListN.{length, getD}
+use Rattle.buffer.specs.Splice.{splice}
 use Rattle.parse.specs.declared.types.Side.{Side}
 use Rattle.parse.specs.declared.types.Side.the-variants as side
 use Rattle.sides.specs.Numbers.{sideFrom, sideKind, sideAt, sideLen}
@@ -49,12 +50,6 @@ matcherAt t k =
       dst = sideFrom (getD t (matcherNumbers * k + 5) 0) (getD t (matcherNumbers * k + 6) 0) (getD t (matcherNumbers * k + 7) 0);
       rhs = targetFrom (getD t (matcherNumbers * k + 8) 0) (getD t (matcherNumbers * k + 9) 0);
     }
-
--- a matcher m is put into a table as number k: the others are kept
-pub record PutMatcher (before : List ℕ) (k : ℕ) (m : Matcher) (after : List ℕ) : Type 0 where
-  pub size : length after ≡ length before
-  pub kept : (j : ℕ) → (j ≡ k → ⊥) → matcherAt after j ≡ matcherAt before j
-  pub there : matcherAt after k ≡ m
 
 -- the matcher of a spec that gives no rows
 abbrev pub noMatcher : Matcher
@@ -105,3 +100,10 @@ sourceNumbers s n = sideKind s ∷ sideAt s ∷ sideLen s ∷ needleKind n ∷ n
 -- and of a destination
 unfoldable pub destinationNumbers : Side → Target → List ℕ
 destinationNumbers s t = sideKind s ∷ sideAt s ∷ sideLen s ∷ targetKind t ∷ targetNumber t ∷ []
+
+-- a matcher m is put into a table as number k: its numbers are written there, and the others are kept
+pub record PutMatcher (before : List ℕ) (k : ℕ) (m : Matcher) (after : List ℕ) : Type 0 where
+  pub written : after ≡ splice before (matcherNumbers * k) (sourceNumbers (m .src) (m .lhs) ++ destinationNumbers (m .dst) (m .rhs))
+  pub size : length after ≡ length before
+  pub kept : (j : ℕ) → (j ≡ k → ⊥) → matcherAt after j ≡ matcherAt before j
+  pub there : matcherAt after k ≡ m

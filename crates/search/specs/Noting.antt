@@ -1,12 +1,14 @@
 -- What the search for hits and the writing of their rows ask and answer.
-use Prim.Native.Nat.{ℕ, _+_, _*_, _/_, _%_, _≤_, _<_}
+use Prim.Native.Nat.{ℕ, _+_, _-_, _*_, _/_, _%_, _≤_, _<_}
 use mathlib.Core.Path.{_≡_}
-use mathlib.Core.Bool.{Bool, false}
+use mathlib.Core.Bool.{Bool, false, cond}
 use mathlib.Core.List.{List, _++_}
 use mathlib.Core.Option.{none}
+use lib.Dec.{leb}
 use lib.ListN.{length, take, getD}
 use Rattle.meaning.specs.Bytes.{Text}
 use Rattle.meaning.specs.Limits.{nameBytes, itemListBytes, itemCount, specCount}
+use Rattle.buffer.specs.Splice.{splice}
 use Rattle.matcher.specs.declared.types.Matcher.{Matcher}
 use Rattle.matcher_table.specs.Numbers.{matcherNumbers, matcherAt}
 use Rattle.filter.specs.declared.Filter.{Filter}
@@ -49,8 +51,15 @@ pub record Stops (back : Bool) (specs : Text) (m : Matcher) (f : Filter) : Type 
   pub stops : (name : Text) → length name ≤ nameBytes → passes f name ≡ false → endsIn back (matcherSpec specs m) name ≡ none
   pub within : FilterWithin f
 
--- t was noted after the first count hits, if there was room for all of it; those before it are kept
+-- how many hits are noted once t was noted after the first count: one more than there is room for where not all of it was
+unfoldable pub notedAfter : ℕ → ℕ → List ℕ → ℕ
+notedAfter room count t = cond (leb (count + length t) room) (count + length t) (room + 1)
+
+-- t was noted after the first count hits, as far as there was room; so all of it where there was room for all, and those before it are
+-- kept
 pub record Adds (hits : List ℕ) (count : ℕ) (t after : List ℕ) (next : ℕ) : Type 0 where
+  pub written : count ≤ length hits + 1 → after ≡ splice hits count (take (length hits - count) t)
+  pub known : count ≤ length hits + 1 → next ≡ notedAfter (length hits) count t
   pub long : length after ≡ length hits
   pub adds : next ≤ length hits → take next after ≡ take count hits ++ t
   pub before : next ≤ length hits → count ≤ length hits

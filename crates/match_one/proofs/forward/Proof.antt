@@ -8,7 +8,7 @@ forward-row-requires : tie.Need-forward-row-requires
 forward-row-requires c κs = search needs
 
 returns : tie.Need-returns
-returns c = (λ s h. search forward-told, search needs)
+returns c = (search needs, λ s h. search forward-told)
 
 pub forward-spec : {M : Type 1} → statement M
 forward-spec = tie.close (tie.spec forward-row-requires returns)

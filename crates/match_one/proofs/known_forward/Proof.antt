@@ -8,7 +8,7 @@ forward-known-requires : tie.Need-forward-known-requires
 forward-known-requires c κs = search needs
 
 returns : tie.Need-returns
-returns c = search known-forward
+returns c = (search needs, search known-forward)
 
 pub known-forward-spec : {M : Type 1} → statement M
 known-forward-spec = tie.close (tie.spec forward-known-requires returns)

@@ -8,7 +8,7 @@ reverse-known-requires : tie.Need-reverse-known-requires
 reverse-known-requires c κs = search needs
 
 returns : tie.Need-returns
-returns c = search known-reverse
+returns c = (search needs, search known-reverse)
 
 pub known-reverse-spec : {M : Type 1} → statement M
 known-reverse-spec = tie.close (tie.spec reverse-known-requires returns)

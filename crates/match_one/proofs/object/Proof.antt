@@ -8,7 +8,7 @@ object-row-requires : tie.Need-object-row-requires
 object-row-requires c κs = search needs
 
 returns : tie.Need-returns
-returns c = (λ s h. search object-told, search object-within)
+returns c = (search needs, λ s h. search object-told, search object-within)
 
 pub object-spec : {M : Type 1} → statement M
 object-spec = tie.close (tie.spec object-row-requires returns)

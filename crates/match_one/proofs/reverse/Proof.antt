@@ -8,7 +8,7 @@ reverse-row-requires : tie.Need-reverse-row-requires
 reverse-row-requires c κs = search needs
 
 returns : tie.Need-returns
-returns c = (λ s h. search back-told, search needs)
+returns c = (search needs, λ s h. search back-told)
 
 pub reverse-spec : {M : Type 1} → statement M
 reverse-spec = tie.close (tie.spec reverse-row-requires returns)
