@@ -30,7 +30,8 @@ use Rattle.promises.proofs.ReadBack.{forward-sound, reverse-sound, soun
 use Rattle.promises.proofs.MapBack.{kept-map-back}
 use Rattle.promises.proofs.Canonical.{canonical-texts-change-nothing}
 use Rattle.promises.proofs.Fitting.{rows-answered}
-use Rattle.promises.proofs.Texts.{EachRead, specs-texts}
+use Rattle.promises.specs.Facts.{EachRead}
+use Rattle.promises.proofs.Texts.{specs-texts}
 use Rattle.promises.proofs.Refusals.{Above, and-accepted, to-bstring-above, match-lhs-above, match-rhs-above, validated-above}
 
 -- what a call that tells no refusal leaves
@@ -257,7 +258,6 @@ map-back-told specs items others group names otherNames there c back e f g rever
     let t = pass-told (forwardRows group names) c (omega (arith, k)) (conflicts-told specs (bytesOf there) group (forwardRows group names) c e b n y) in
     let shorter = keep-shorter isKept (forwardRows group names) in
     let v = reverse-leaves specs others group otherNames back e g o x in (
-      keep isKept (forwardRows group names),
       rw (t .kept-left .front) (sound-back (length group) (length names) (keep isKept (forwardRows group names)) (group-count 0 specs group e) (names-count items names f) (λ r i. forward-sound group names r (keep-in isKept (forwardRows group names) i .0)) (omega arith)),
       v,
       reverse-back specs others group otherNames back e g v,
@@ -282,7 +282,7 @@ text-leaves : (t : Text) (s : Spec) (c : OneCall) → readSpec 0 t ≡ accepted 
 text-leaves t s c e m z = one-leaves (toBstring 0 t) (canonicalText 0 s) c (text-is t s e) m z
 
 -- what such calls answer, in order
-texts-answered : (texts : List Text) (group : List Spec) (calls : List OneCall) → EachRead texts group → CallOnEach texts calls → map bytesOf calls ≡ canonicalTexts group
+texts-answered : (texts : List Text) (group : List Spec) (calls : List OneCall) → EachRead 0 texts group → CallOnEach texts calls → map bytesOf calls ≡ canonicalTexts group
 texts-answered [] [] [] r m = refl
 texts-answered [] [] (c ∷ calls) r m = elim m [ ]
 texts-answered [] (s ∷ group) calls r m = elim r [ ]

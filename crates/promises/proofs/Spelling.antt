@@ -1,4 +1,4 @@
--- A list that is read is the bytes of what it is read as: numbers, texts, items and rows have one spelling. Assumes nothing.
+-- A list that is read is the bytes of what it is read as: numbers, texts, items and rows have one spelling, and a spec list is texts. Assumes nothing.
 use mathlib.Core.Path.{_≡_, refl, sym, ap, _∙_}
 use mathlib.Core.Logic.{_⊎_, inl, inr}
 use mathlib.Core.Bool.{Bool, true, false, cond}
@@ -10,16 +10,16 @@ use borrow.Author.Tests.{le-ltb, ltb-true, ltb-false, leb-true, eqb-true, eqb-fa
 use lib.Dec.{eqb, leb, ltb}
 use lib.ListN.{length, take, drop, take-append-drop, length-append, length-drop}
 use Rattle.meaning.specs.Bytes.{Text, _and_, _or_, every, each, In}
-use Rattle.meaning.specs.Limits.{nameBytes, itemListBytes, rowListBytes, itemCount, numberGroups}
-use Rattle.meaning.specs.Spec.{Answer, accepted, refused}
+use Rattle.meaning.specs.Limits.{nameBytes, specListBytes, itemListBytes, rowListBytes, specCount, itemCount, numberGroups}
+use Rattle.meaning.specs.Spec.{Answer, accepted, refused, Spec, readSpec}
 use Rattle.meaning.specs.Number.{groups, numberBytes, textBytes, recordBytes, Step, took, no, Reader, stepThen, _>>=_, give, need, groupBefore, readGroups, readNumber, readBytes, readText}
-use Rattle.meaning.specs.Lists.{withFirst, recordThen, recordsFrom, readList, itemRecord, readItems}
+use Rattle.meaning.specs.Lists.{withFirst, recordThen, recordsFrom, readList, answered, specRecord, itemRecord, readSpecs, readItems}
 use Rattle.meaning.specs.Rows.{Row, destinationBytes, rowBytes, rowListOf, destinationAfter, readDestination, readFront, readRow, rowPasses, rowRecord, readRows}
-use Rattle.promises.specs.Facts.{isByte, OneSpelling, ReadRowFits, ReadRowsFit}
+use Rattle.promises.specs.Facts.{isByte, EachRead, OneSpelling, ReadRowFits, ReadRowsFit}
 use Rattle.promises.proofs.Laws.{and-left, and-right, or-cases, each-long}
 use Rattle.promises.proofs.Reading.{number-long, list-all}
 use Rattle.promises.proofs.ReadBack.{row-length}
-use Rattle.promises.proofs.Members.{need-yes, step-took}
+use Rattle.promises.proofs.Members.{need-yes, step-took, answered-took, specs-list}
 
 -- what is left of bytes is bytes
 bytes-left : (p s : Text) → every isByte (p ++ s) ≡ true → every isByte s ≡ true
@@ -179,11 +179,61 @@ row-record-spelled specs i s b rest h e =
     let v : q .1 ≡ rest = cc in
     row-spelled s (q .0) (q .1) h (q .2) ∙ ap (λ (x : Row). rowBytes x ++ q .1) u ∙ ap (λ (x : Text). rowBytes b ++ x) v
 
--- item lists and row lists have one spelling
+-- an answer on a record leaves what follows it
+pub answered-left : {A : Type 0} (x : Answer A) (s : Text) {b : A} {rest : Text} → answered x s ≡ took b rest → s ≡ rest
+answered-left (accepted a) s e = cc
+answered-left (refused n r) s e = absurd (let z : _≡_ {A = ℕ} 0 1 = cc in omega arith)
+
+-- a spec of a list: its text, which is read as it
+spec-spelled : (op i : ℕ) (s : Text) (b : Spec) (rest : Text) → every isByte s ≡ true → specRecord op i s ≡ took b rest → (t : Text) × (s ≡ textBytes t ++ rest) × (readSpec op t ≡ accepted b)
+unfolding specRecord
+spec-spelled op i s b rest h e =
+    let p : stepThen (readText s) (λ t. answered (readSpec op t)) ≡ took b rest = rw (need-yes 14 (ltb i specCount) (readText >>= λ t. answered (readSpec op t)) s e) at e in
+    let q = step-took (readText s) (λ t. answered (readSpec op t)) p in
+    (q .0, text-spelled s (q .0) (q .1) h (q .2) ∙ ap (λ (x : Text). textBytes (q .0) ++ x) (answered-left (readSpec op (q .0)) (q .1) (q .3)), answered-took (readSpec op (q .0)) (q .1) (q .3))
+
+-- the texts of a spec list that is read
+record SpecTexts (op : ℕ) (s : Text) (group : List Spec) : Type 0 where
+  texts : List Text
+  is : s ≡ each texts textBytes
+  read : EachRead op texts group
+
+no-texts : (op : ℕ) (group : List Spec) → _≡_ {A = Answer (List Spec)} (accepted []) (accepted group) → SpecTexts op [] group
+no-texts op group e = let u : [] ≡ group = cc in rw (← u) (record { texts = []; is = refl; read = tt })
+
+then-texts : (op : ℕ) (s : Text) (b : Spec) (rest t : Text) → s ≡ textBytes t ++ rest → readSpec op t ≡ accepted b → (a : Answer (List Spec)) → ((m : List Spec) → a ≡ accepted m → SpecTexts op rest m) → (group : List Spec) → withFirst b a ≡ accepted group → SpecTexts op s group
+then-texts op s b rest t q r (accepted m) f group e =
+    let u : b ∷ m ≡ group = cc in
+    let k = f m refl in
+    rw (← u) (record { texts = t ∷ k .texts; is = q ∙ ap (λ (x : Text). textBytes t ++ x) (k .is); read = (r, k .read) })
+then-texts op s b rest t q r (refused n i) f group e = absurd (let z : _≡_ {A = ℕ} 0 1 = cc in omega arith)
+
+step-texts : (op i : ℕ) (s : Text) → every isByte s ≡ true → (st : Step Spec) → specRecord op i s ≡ st → (g : Text → Answer (List Spec)) → ((rest : Text) (m : List Spec) → every isByte rest ≡ true → g rest ≡ accepted m → SpecTexts op rest m) → (group : List Spec) → recordThen i st g ≡ accepted group → SpecTexts op s group
+step-texts op i s h (took b rest) e g f group p = let q = spec-spelled op i s b rest h e in then-texts op s b rest (q .0) (q .1) (q .2) (g rest) (λ m k. f rest m (bytes-after s (textBytes (q .0)) rest h (q .1)) k) group p
+step-texts op i s h (no n) e g f group p = absurd (let z : _≡_ {A = ℕ} 0 1 = cc in omega arith)
+
+records-texts : (op k i : ℕ) (s : Text) (group : List Spec) → every isByte s ≡ true → recordsFrom (specRecord op) k i s ≡ accepted group → SpecTexts op s group
+records-texts op zero i [] group h e = no-texts op group e
+records-texts op zero i (x ∷ s) group h e = absurd (let z : _≡_ {A = ℕ} 0 1 = cc in omega arith)
+records-texts op (suc k) i [] group h e = no-texts op group e
+records-texts op (suc k) i (x ∷ s) group h e = step-texts op i (x ∷ s) h (specRecord op i (x ∷ s)) refl (λ rest. recordsFrom (specRecord op) k (suc i) rest) (λ rest m g p. records-texts op k (suc i) rest m g p) group e
+
+specs-spelled : (op : ℕ) (s : Text) (group : List Spec) → every isByte s ≡ true → readSpecs op s ≡ accepted group → (texts : List Text) × (s ≡ recordBytes texts) × EachRead op texts group
+unfolding readList recordBytes
+specs-spelled op s group h e = let k = go (leb (length s) specListBytes) (specs-list op s group e) in (k .texts, k .is, k .read)
+  where
+    go : (c : Bool) → cond c (recordsFrom (specRecord op) (length s) 0 s) (refused 12 none) ≡ accepted group → SpecTexts op s group
+    go true p = records-texts op (length s) 0 s group h p
+    go false p = absurd (let z : _≡_ {A = ℕ} 0 1 = cc in omega arith)
+
+-- item lists and row lists have one spelling, and spec lists are texts
 pub one-spelling : OneSpelling
 unfolding readItems readRows recordBytes rowListOf
-one-spelling =
-    ((λ s names h e. list-spelled itemRecord textBytes item-spelled itemListBytes s names h e), (λ specs s rows h e. list-spelled (rowRecord specs) rowBytes (row-record-spelled specs) rowListBytes s rows h e))
+one-spelling = (
+  (λ s names h e. list-spelled itemRecord textBytes item-spelled itemListBytes s names h e),
+  (λ specs s rows h e. list-spelled (rowRecord specs) rowBytes (row-record-spelled specs) rowListBytes s rows h e),
+  specs-spelled,
+)
 
 -- rows that are read fit
 

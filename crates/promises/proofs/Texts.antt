@@ -11,17 +11,11 @@ use Rattle.meaning.specs.Limits.{specListBytes, specCount, largestNumber}
 use Rattle.meaning.specs.Spec.{Answer, accepted, refused, Spec, readSpec}
 use Rattle.meaning.specs.Number.{numberBytes, textBytes, recordBytes, Step, took, no, Reader, stepThen, _>>=_, readText}
 use Rattle.meaning.specs.Lists.{withFirst, recordThen, recordsFrom, readList, answered, specRecord, readSpecs}
+use Rattle.promises.specs.Facts.{EachRead}
 use Rattle.promises.proofs.Laws.{each-long}
 use Rattle.promises.proofs.Reading.{read-text, number-long}
 use Rattle.promises.proofs.Members.{need-yes, answered-took, specs-list}
-use Rattle.promises.proofs.Spelling.{list-within}
-
--- each text is read as the spec in its place
-abbrev pub EachRead : List Text → List Spec → Type 0
-EachRead [] [] = Unit {0}
-EachRead [] (s ∷ l) = ⊥
-EachRead (t ∷ texts) [] = ⊥
-EachRead (t ∷ texts) (s ∷ l) = (readSpec 0 t ≡ accepted s) × EachRead texts l
+use Rattle.promises.proofs.Spelling.{answered-left, list-within}
 
 -- a list that is read from a byte or more: its first record, what that left, and what was read of it
 record Taken {B : Type 0} (one : ℕ → Reader B) (i : ℕ) (s : Text) (l : List B) : Type 0 where
@@ -48,11 +42,6 @@ records-taken one k i [] l h e = absurd (omega arith)
 records-taken one zero i (x ∷ s) l h e = absurd (let z : _≡_ {A = ℕ} 0 1 = cc in omega arith)
 records-taken one (suc k) i (x ∷ s) l h e = record-taken one k i (x ∷ s) l (one i (x ∷ s)) refl e
 
--- an answer on a record leaves what follows it
-answered-left : {A : Type 0} (x : Answer A) (s : Text) {b : A} {rest : Text} → answered x s ≡ took b rest → s ≡ rest
-answered-left (accepted a) s e = cc
-answered-left (refused n r) s e = absurd (let z : _≡_ {A = ℕ} 0 1 = cc in omega arith)
-
 -- the spec of a record was read from the record's text
 spec-taken : (i : ℕ) (t rest : Text) (b : Spec) (r : Text) → length t ≤ largestNumber → specRecord 0 i (textBytes t ++ rest) ≡ took b r → (readSpec 0 t ≡ accepted b) × (rest ≡ r)
 unfolding specRecord
@@ -63,7 +52,7 @@ spec-taken i t rest b r h e =
     (answered-took (readSpec 0 t) rest q, answered-left (readSpec 0 t) rest q)
 
 -- so for every record
-texts-read : (texts : List Text) (k i : ℕ) (l : List Spec) → ((t : Text) → In t texts → length t ≤ largestNumber) → recordsFrom (specRecord 0) k i (each texts textBytes) ≡ accepted l → EachRead texts l
+texts-read : (texts : List Text) (k i : ℕ) (l : List Spec) → ((t : Text) → In t texts → length t ≤ largestNumber) → recordsFrom (specRecord 0) k i (each texts textBytes) ≡ accepted l → EachRead 0 texts l
 unfolding textBytes
 texts-read [] zero i l h e = let q : [] ≡ l = cc in rw (← q) tt
 texts-read [] (suc k) i l h e = let q : [] ≡ l = cc in rw (← q) tt
@@ -76,7 +65,7 @@ texts-read (t ∷ texts) k i l h e =
     rw (c .both) (s .0, texts-read texts (c .steps) (suc i) (c .later) (λ u m. h u (there m)) (ap (recordsFrom (specRecord 0) (c .steps) (suc i)) (s .1) ∙ c .later-read))
 
 -- a spec list that is read
-pub specs-texts : (texts : List Text) (group : List Spec) → readSpecs 0 (recordBytes texts) ≡ accepted group → EachRead texts group
+pub specs-texts : (texts : List Text) (group : List Spec) → readSpecs 0 (recordBytes texts) ≡ accepted group → EachRead 0 texts group
 unfolding recordBytes readList textBytes
 specs-texts texts group e =
     let r = specs-list 0 (recordBytes texts) group e in

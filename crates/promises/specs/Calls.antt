@@ -7,7 +7,7 @@ use mathlib.Core.Bool.{true}
 use mathlib.Core.List.{List, map}
 use mathlib.Core.Option.{some}
 use lib.ListN.{length}
-use Rattle.meaning.specs.Bytes.{Text, every, In}
+use Rattle.meaning.specs.Bytes.{Text, every, keep, In}
 use Rattle.meaning.specs.Limits.{specListBytes, rowListBytes}
 use Rattle.meaning.specs.Spec.{accepted, Spec, readSpec}
 use Rattle.meaning.specs.Instruction.{canonicalText}
@@ -15,6 +15,7 @@ use Rattle.meaning.specs.Number.{recordBytes}
 use Rattle.meaning.specs.Lists.{readSpecs, readItems}
 use Rattle.meaning.specs.Rows.{Row, rowListOf, readRows}
 use Rattle.meaning.specs.Listing.{forwardRows, reverseRows}
+use Rattle.meaning.specs.Validation.{isKept}
 use Rattle.meaning.specs.Entries.{toBstring, matchLhs, matchRhs, validated}
 use Rattle.promises.specs.Terms.{reversible, StandsAsSource, canonicalList, textFits, noPlus, OneCall, MetOne, bytesOf, CallOnEach, TwoCall, MetTwo, firstBytesOf, Leaves, TellsConflicts, TellsPass, ReadsItems, ReadsRows}
 
@@ -55,7 +56,7 @@ ListingsTold =
 -- "Whatever the items, in a fetch group where every spec with a destination has patterns on both sides or begins both with refs/, take
 -- any kept destination of at most 4,096 bytes: in every reverse listing under the group whose item list holds it, a forward item
 -- stands as its source exactly when the item's name is the kept row's source."
--- Three calls: a forward listing, the validation of its bytes, which passes, and a reverse listing.
+-- Three calls: a forward listing, the validation of its bytes, which passes and leaves the kept rows, and a reverse listing.
 abbrev pub MapBackTold : Type 0
 MapBackTold =
     (specs items others : Text) (group : List Spec) (names otherNames : List Text) (there : OneCall) (c : TwoCall) (back : OneCall)
@@ -70,16 +71,16 @@ MapBackTold =
     → c .mark ≡ 0
     → MetOne (matchRhs 0 specs others) back
     → back .refusal ≡ 0
-    → (kept : List Row)
-    × (readRows (length group) (firstBytesOf c) ≡ accepted kept)
+    → (readRows (length group) (firstBytesOf c) ≡ accepted (keep isKept (forwardRows group names)))
     × Leaves (back .before) (back .after) (rowListOf (reverseRows group otherNames)) (back .size)
     × (back .size ≤ rowListBytes → readRows (length group) (bytesOf back) ≡ accepted (reverseRows group otherNames))
-    × ((r : Row) (d n : Text) → In r kept → r .destination ≡ some d → In d otherNames → In n names → StandsAsSource (reverseRows group otherNames) d n ↔ (n ≡ r .source))
+    × ((r : Row) (d n : Text) → In r (keep isKept (forwardRows group names)) → r .destination ≡ some d → In d otherNames → In n names → StandsAsSource (reverseRows group otherNames) d n ↔ (n ≡ r .source))
 
 -- "Whatever the items and rows, a fetch group and the group of its canonical texts have the same forward rows, reverse rows,
 -- conflicts, kept rows and fixes, if those texts fit the limits and no fetch-only source begins with +."
--- A call for the canonical text of a spec leaves it; such calls on the texts of a spec list give the list of canonical texts; and a
--- call under the one list meets its answer exactly when the same call under the other does.
+-- A call for the canonical text of a spec leaves it; such calls on the texts of a spec list give the list of canonical texts (every spec
+-- list that is read is the bytes of texts: OneSpelling in Facts); and a call under the one list meets its answer exactly when the same
+-- call under the other does.
 abbrev pub CanonicalTold : Type 0
 CanonicalTold =
     ((t : Text) (s : Spec) (c : OneCall) → readSpec 0 t ≡ accepted s → MetOne (toBstring 0 t) c → c .refusal ≡ 0 → Leaves (c .before) (c .after) (canonicalText 0 s) (c .size))

@@ -9,7 +9,7 @@ use lib.Dec.{ltb}
 use lib.ListN.{length}
 use Rattle.meaning.specs.Bytes.{Text, every, byte, colon, hasByte, inOrder, In, Ascending}
 use Rattle.meaning.specs.Limits.{mappedBytes, rowListBytes, specCount, itemCount, decimalDigits}
-use Rattle.meaning.specs.Spec.{Answer, accepted, Spec, one, two, sidesOf}
+use Rattle.meaning.specs.Spec.{Answer, accepted, Spec, one, two, sidesOf, readSpec}
 use Rattle.meaning.specs.Prefix.{GroupPrefixes}
 use Rattle.meaning.specs.Number.{recordBytes, Reader}
 use Rattle.meaning.specs.Lists.{recordThen, recordsFrom, specRecord, itemRecord, readSpecs, readItems}
@@ -124,11 +124,20 @@ ViewSpells =
 abbrev pub isByte : ℕ → Bool
 isByte b = ltb b 256
 
--- an item list or a row list that is read is the bytes of what it is read as: each has one spelling
+-- each text is read as the spec in its place
+abbrev pub EachRead : ℕ → List Text → List Spec → Type 0
+EachRead op [] [] = Unit {0}
+EachRead op [] (s ∷ group) = ⊥
+EachRead op (t ∷ texts) [] = ⊥
+EachRead op (t ∷ texts) (s ∷ group) = (readSpec op t ≡ accepted s) × EachRead op texts group
+
+-- an item list or a row list that is read is the bytes of what it is read as: each has one spelling; and a spec list that is read is the
+-- bytes of texts, each of which is read as the spec in its place
 abbrev pub OneSpelling : Type 0
 OneSpelling =
     ((s : Text) (names : List Text) → every isByte s ≡ true → readItems s ≡ accepted names → s ≡ recordBytes names)
     × ((specs : ℕ) (s : Text) (rows : List Row) → every isByte s ≡ true → readRows specs s ≡ accepted rows → s ≡ rowListOf rows)
+    × ((op : ℕ) (s : Text) (group : List Spec) → every isByte s ≡ true → readSpecs op s ≡ accepted group → (texts : List Text) × (s ≡ recordBytes texts) × EachRead op texts group)
 
 -- the numbers that validation writes of a row that was read under so many specs
 pub record ReadRowFits (specs : ℕ) (r : Row) : Type 0 where
