@@ -36,7 +36,7 @@ pub(crate) fn decimal_size(n: usize) -> usize
 }
 
 // Writes the digits of a number, k of them at most, and answers the place after them.
-fn put_digits(out: &mut [u8], at: usize, k: usize, n: usize) -> usize
+pub fn put_digits(out: &mut [u8], at: usize, k: usize, n: usize) -> usize
     requires { ⌜ at + length (digits k n) ≤ length (now out) ⌝ }
     ensures { λ r. ⌜ (now (out .exit) ≡ splice (now (out .entry)) at (digits k n)) × (r ≡ at + length (digits k n)) ⌝ }
 {

@@ -9,7 +9,7 @@ ghost use Rattle.print.specs.Lines.{printable, coded, shownMost};
 use buffer::put_byte;
 
 // A byte that is printed as it is: 33 to 126, but not `%`.
-fn is_plain(b: u8) -> bool
+pub fn is_plain(b: u8) -> bool
     ensures { λ r. ⌜ r ≡ printable b ⌝ }
 {
     match b {
@@ -20,7 +20,7 @@ fn is_plain(b: u8) -> bool
 }
 
 // A capital hexadecimal digit.
-fn capital_digit(n: u8) -> u8
+pub fn capital_digit(n: u8) -> u8
     requires { ⌜ n < 16 ⌝ }
     ensures { λ r. ⌜ r ≡ capitalDigit n ⌝ }
 {

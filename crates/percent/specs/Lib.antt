@@ -1,0 +1,2 @@
+-- `Decode`: how a text in print is read, step by step.
+pub mod Decode
