@@ -7,6 +7,7 @@ use libc::STDIN_FILENO;
 use limits::PROGRAM_BYTES;
 use text_lists::line::Line;
 use text_lists::line::classify;
+use text_lists::line::next_line;
 
 mod print;
 mod show;
@@ -29,6 +30,8 @@ fn show_line(number: u64, line: &[u8]) {
         Line::Fetch(start) => show_from(number, 0, line, start),
         Line::Push(start) => show_from(number, 1, line, start),
         Line::Name(_) => (),
+        Line::Shown(_) => (),
+        Line::Marked => complain(number, b"it begins with a byte order mark"),
         Line::Unknown => complain(number, b"neither `fetch SPEC` nor `push SPEC`"),
     }
 }
@@ -47,9 +50,10 @@ fn show_lines(s: &[u8])
     let mut at = 0;
     let mut number: u64 = 1;
     while at < s.len() {
-        let end = text::find_from(b'\n', s, at);
+        let extent = next_line(s, at);
+        let end = extent.end;
         show_line(number, &s[at..end]);
-        at = end + 1;
+        at = extent.next;
         number += 1;
     }
 }

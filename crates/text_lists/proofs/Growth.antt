@@ -1,23 +1,32 @@
 -- A list that grows in its buffer, line by line. Assumes nothing.
 use Prim.Native.Nat.{ℕ, zero, suc, _+_, _-_, _≤_}
-use mathlib.Core.Path.{_≡_, refl, sym, _∙_}
+use mathlib.Core.Path.{_≡_, refl, sym, ap, _∙_}
+use mathlib.Core.Bool.{Bool, true, false, cond}
 use mathlib.Core.List.{List, [], _∷_, append-nil}
 use native.Mathlib.Omega.{arith}
 use mir.Val.{Fits}
 use mir.Syntax.{w64}
-use lib.ListN.{length, take, drop}
+use lib.Dec.{eqb}
+use lib.ListN.{length, take, drop, getD, List·getD-eq-default}
+use lib.Seq.{take-at, length-take-le}
 use Rattle.meaning.specs.Bytes.{Text}
-use Rattle.meaning.specs.Limits.{specListBytes, itemListBytes}
+use Rattle.meaning.specs.Limits.{specListBytes, itemListBytes, programBytes}
 use Rattle.meaning.specs.Number.{textBytes, recordBytes}
 use Rattle.buffer.specs.Splice.{splice}
-use Rattle.buffer.proofs.Splices.{splice-none}
+use Rattle.buffer.proofs.Splices.{splice-none, splice-start}
 use Rattle.text.proofs.Rests.{rest-part}
+use Rattle.text.proofs.Scans.{byte-is, byte-other}
+use Rattle.percent.proofs.Walks.{text-short}
+use Rattle.print.specs.Unshown.{Unshown, stands, fault, textOf, unshown}
+use Rattle.percent.specs.declared.Measured.{Measured}
+use Rattle.percent.specs.declared.Measured.the-variants.{Size, Fault}
+use Rattle.percent.specs.Decode.{measured, Decodes}
 use Rattle.text_lists.specs.declared.line.Line.{Line}
-use Rattle.text_lists.specs.declared.line.Line.the-variants.{Nothing, Fetch, Push, Name, Unknown}
-use Rattle.text_lists.specs.Line.{Held, nothing, unknown, fetch, push, name, heldIn, TellsLine}
+use Rattle.text_lists.specs.declared.line.Line.the-variants.{Nothing, Fetch, Push, Name, Shown, Marked, Unknown}
+use Rattle.text_lists.specs.Line.{Held, nothing, marked, unknown, fetch, push, name, shown, heldIn, TellsLine}
 use Rattle.text_lists.specs.declared.Lists.{Lists}
-use Rattle.text_lists.specs.Gather.{specReason, nameReason, reasonOf, specsIn, namesIn}
-use Rattle.text_lists.specs.Growing.{Room, stopped, unlessRefused, Grows, SpecAdds, NameAdds, LineAdds}
+use Rattle.text_lists.specs.Gather.{specReason, nameReason, faultReason, unshownReason, unshownNames, reasonOf, specsIn, namesIn}
+use Rattle.text_lists.specs.Growing.{Room, stopped, unlessRefused, Grows, SpecAdds, NamesAdd, NameAdds, ShownAdds, LineAdds}
 use Rattle.text_lists.proofs.Reasons.{spec-passes, name-passes}
 
 -- what is refused adds nothing
@@ -110,6 +119,66 @@ module _ (t : Text) (so : Lists) (d : Text) (n : ℕ) (en : n ≡ nameReason (so
       bytes-stay = refl;
     }
 
+-- why a fault is refused
+fault-some : (u : Text) (k : ℕ) → (k ≡ 0 → ⊥) → faultReason u k ≡ cond (eqb 37 (getD u k 0)) 105 106
+fault-some u zero z = absurd (z refl)
+fault-some u (suc k) z = refl
+
+module _ (u : Text) (k : ℕ) where
+  pub fault-unsigned : k ≡ 0 → 104 ≡ faultReason u k
+  fault-unsigned z = rw z
+
+  module _ (z : k ≡ 0 → ⊥) where
+    pub fault-past : length u ≤ k → 106 ≡ faultReason u k
+    fault-past h = rw (fault-some u k z, List·getD-eq-default u 0 h)
+
+    pub fault-escape : getD u k 0 ≡ 37 → 105 ≡ faultReason u k
+    fault-escape e = rw (fault-some u k z, byte-is (getD u k 0) 37 e)
+
+    pub fault-unprinted : (getD u k 0 ≡ 37 → ⊥) → 106 ≡ faultReason u k
+    fault-unprinted n = rw (fault-some u k z, byte-other (getD u k 0) 37 n)
+
+pub fault-refuses : (u : Text) (k : ℕ) → faultReason u k ≡ 0 → ⊥
+fault-refuses u zero e = omega arith
+fault-refuses u (suc k) e = go (eqb 37 (getD u (suc k) 0)) e
+  where
+    go : (b : Bool) → _≡_ {A = ℕ} (cond b 105 106) 0 → ⊥
+    go true z = omega arith
+    go false z = omega arith
+
+-- a name as a listing shows it, from what was decoded
+module _ (u : Text) (m : Measured) (entry exit : Text) (decodes : Decodes (unshown u) entry exit m) (so : Lists) (d : Text) where
+  decoded : (r : Unshown) (n : ℕ) → m ≡ measured r → m ≡ Size n → exit ≡ splice entry 0 (textOf r) → r ≡ stands (take n exit)
+  decoded (stands t) n e f p = let q : length t ≡ n = cc in ap stands (sym (rw (p, splice-start entry t, ← q) (take-at t (drop (length t) entry) (length t) refl)))
+  decoded (fault k) n e f p = absurd (let z : _≡_ {A = ℕ} 0 1 = cc in omega arith)
+
+  pub shown-added : (n : ℕ) → m ≡ Size n → (r : Lists) (e : Text) → NameAdds (take n exit) so r d e → ShownAdds u so r d e
+  shown-added n f r e adds = rw (decoded (unshown u) n (decodes .tells) f (decodes .puts)) adds
+
+  faulty : (r : Unshown) (k : ℕ) → m ≡ measured r → m ≡ Fault k → r ≡ fault k
+  faulty (stands t) k e f = absurd (let z : _≡_ {A = ℕ} 0 1 = cc in omega arith)
+  faulty (fault j) k e f = let q : j ≡ k = cc in ap fault q
+
+  pub shown-refused : (k : ℕ) → m ≡ Fault k → (n : ℕ) → n ≡ faultReason u k → Room itemListBytes (so .«names_size») d → (r : Lists) → r ≡ stopped so n → ShownAdds u so r d d
+  shown-refused k f n en room r e = rw (faulty (unshown u) k (decodes .tells) f, e) (record {
+    reason-is = en;
+    grows = stays-new itemListBytes n [] (none-new n) (so .names) (so .«names_size») (so .names) (so .«names_size») d refl refl (room .small);
+    specs-stay = refl;
+    bytes-stay = refl;
+  })
+
+-- it is no longer than what shows it
+pub shown-room : (u : Text) (m : Measured) (entry exit : Text) → Decodes (unshown u) entry exit m → (n : ℕ) → m ≡ Size n → length u ≤ programBytes → length exit ≡ programBytes → n ≤ length exit
+shown-room u m entry exit decodes n f h l = sizes (unshown u) (decodes .tells) (text-short u)
+  where
+    sizes : (r : Unshown) → m ≡ measured r → length (textOf r) ≤ length u → n ≤ length exit
+    sizes (stands t) e s = let q : length t ≡ n = cc in omega arith
+    sizes (fault k) e s = absurd (let z : _≡_ {A = ℕ} 0 1 = cc in omega arith)
+
+-- the first bytes of a buffer are no more than it has
+pub first-fits : (n : ℕ) (b : Text) → n ≤ length b → length b ≤ programBytes → length (take n b) ≤ programBytes
+first-fits n b h l = omega (arith, length-take-le n b h)
+
 -- what a line holds, from the answer about it
 module _ (line : Text) (a : Line) (tells : TellsLine line a) (so : Lists) (d₁ d₂ : Text) (room₁ : Room specListBytes (so .«specs_size») d₁) (room₂ : Room itemListBytes (so .«names_size») d₂) where
   -- a line that adds nothing, for a reason or for none
@@ -126,6 +195,9 @@ module _ (line : Text) (a : Line) (tells : TellsLine line a) (so : Lists) (d₁ 
 
     pub line-unknown : a ≡ Unknown → r ≡ stopped so 102 → LineAdds (heldIn line) so r d₁ d₂ d₁ d₂
     line-unknown e f = let m : unknown ≡ heldIn line = rw e at (tells .means) in rw (f, ← m) (stays-both unknown 102 refl refl refl)
+
+    pub line-marked : a ≡ Marked → r ≡ stopped so 103 → LineAdds (heldIn line) so r d₁ d₂ d₁ d₂
+    line-marked e f = let m : marked ≡ heldIn line = rw e at (tells .means) in rw (f, ← m) (stays-both marked 103 refl refl refl)
 
     module _ (at : ℕ) where
       pub line-push : a ≡ Push at → r ≡ stopped so 101 → LineAdds (heldIn line) so r d₁ d₂ d₁ d₂
@@ -151,9 +223,22 @@ module _ (line : Text) (a : Line) (tells : TellsLine line a) (so : Lists) (d₁ 
             names-grow = x .grows;
           })
 
+      pub line-shown : a ≡ Shown at → (e : Text) → ShownAdds (take (length line - at) (drop at line)) so r d₂ e → LineAdds (heldIn line) so r d₁ d₂ d₁ e
+      line-shown f e adds =
+          let m : shown (drop at line) ≡ heldIn line = rw f at (tells .means) in
+          let x : ShownAdds (drop at line) so r d₂ e = rw (rest-part line at) at adds in
+          rw (← m) (record {
+            reason-is = x .reason-is;
+            specs-grow = stays-new specListBytes (r .reason) [] (none-new (r .reason)) (so .specs) (so .«specs_size») (r .specs) (r .«specs_size») d₁ (x .specs-stay) (x .bytes-stay) (room₁ .small);
+            names-grow = x .grows;
+          })
+
   -- the place stands within the line
   pub fetch-within : (at : ℕ) → a ≡ Fetch at → at ≤ length line
   fetch-within at e = rw e at (tells .within)
 
   pub name-within : (at : ℕ) → a ≡ Name at → at ≤ length line
   name-within at e = rw e at (tells .within)
+
+  pub shown-within : (at : ℕ) → a ≡ Shown at → at ≤ length line
+  shown-within at e = rw e at (tells .within)

@@ -8,8 +8,8 @@ use lib.Dec.{eqb}
 use lib.ListN.{length, drop, length-append}
 use Rattle.meaning.specs.Bytes.{Text, bytes, every, begins}
 use Rattle.promises.proofs.Captures.{begins-is}
-use Rattle.text_lists.specs.declared.line.Line.the-variants.{Nothing, Fetch, Push, Name, Unknown}
-use Rattle.text_lists.specs.Line.{blankByte, heldIn, TellsLine}
+use Rattle.text_lists.specs.declared.line.Line.the-variants.{Nothing, Fetch, Push, Name, Shown, Marked, Unknown}
+use Rattle.text_lists.specs.Line.{blankByte, byteOrderMark, heldIn, TellsLine}
 
 -- a space, and any other byte
 pub blank-space : (b : ℕ) → b ≡ 32 → true ≡ blankByte b
@@ -48,6 +48,16 @@ module _ (t : Text) (a : Bool) (ea : a ≡ every blankByte t) where
           unfolding heldIn
           line-name e = record { means = rw (sym ea ∙ na, sym eb ∙ nb, sym ef ∙ nf, sym ep ∙ np, sym en ∙ e); within = word-within (bytes "name ") t n en e }
 
-          pub line-unknown : n ≡ false → TellsLine t Unknown
-          unfolding heldIn
-          line-unknown e = record { means = rw (sym ea ∙ na, sym eb ∙ nb, sym ef ∙ nf, sym ep ∙ np, sym en ∙ e); within = _ }
+          module _ (nn : n ≡ false) (w : Bool) (ew : w ≡ begins (bytes "shown ") t) where
+            pub line-shown : w ≡ true → TellsLine t (Shown 6)
+            unfolding heldIn
+            line-shown e = record { means = rw (sym ea ∙ na, sym eb ∙ nb, sym ef ∙ nf, sym ep ∙ np, sym en ∙ nn, sym ew ∙ e); within = word-within (bytes "shown ") t w ew e }
+
+            module _ (nw : w ≡ false) (m : Bool) (em : m ≡ begins byteOrderMark t) where
+              pub line-marked : m ≡ true → TellsLine t Marked
+              unfolding heldIn
+              line-marked e = record { means = rw (sym ea ∙ na, sym eb ∙ nb, sym ef ∙ nf, sym ep ∙ np, sym en ∙ nn, sym ew ∙ nw, sym em ∙ e); within = _ }
+
+              pub line-unknown : m ≡ false → TellsLine t Unknown
+              unfolding heldIn
+              line-unknown e = record { means = rw (sym ea ∙ na, sym eb ∙ nb, sym ef ∙ nf, sym ep ∙ np, sym en ∙ nn, sym ew ∙ nw, sym em ∙ e); within = _ }

@@ -18,10 +18,12 @@ use Rattle.promises.proofs.Accepted.{read-passed}
 use Rattle.promises.proofs.Laws.{in-append, in-cons, map-same}
 use Rattle.promises.proofs.Reading.{records-append}
 use Rattle.promises.proofs.Members.{specs-written, items-written}
-use Rattle.text_lists.specs.Line.{Held, nothing, unknown, fetch, push, name, heldIn}
-use Rattle.text_lists.specs.Gather.{linesOf, reasonOf, specsIn, namesIn, unlessStopped, gather, gathered}
+use Rattle.print.specs.Unshown.{Unshown, stands, fault, unshown}
+use Rattle.text_lists.specs.Line.{linesOf, Held, nothing, marked, unknown, fetch, push, name, shown, heldIn}
+use Rattle.text_lists.specs.Gather.{nameReason, unshownReason, unshownNames, reasonOf, specsIn, namesIn, unlessStopped, gather, gathered}
 use Rattle.text_lists.specs.Facts.{printedListing, ReadsBack}
 use Rattle.text_lists.proofs.Reasons.{spec-passes, name-passes}
+use Rattle.text_lists.proofs.Growth.{fault-refuses}
 
 -- lists within the limits of document 01, of texts that pass their questions
 record Listed (limit most : ℕ) (Passes : Text → Type 0) (l : List Text) : Type 0 where
@@ -75,9 +77,23 @@ record Both (specs names : List Text) : Type 0 where
   specs-listed : Listed specCount specListBytes SpecText specs
   names-listed : Listed itemCount itemListBytes NameText names
 
+-- a name that is not refused keeps the lists so, and so does one as a listing shows it
+name-more : (specs names : List Text) → Both specs names → (t : Text) → nameReason (length names) (length (recordBytes names)) t ≡ 0 → Both (specs ++ []) (names ++ (t ∷ []))
+name-more specs names b t e =
+    let p = name-passes (length names) (length (recordBytes names)) t e in
+    record {
+      specs-listed = same-listed specCount specListBytes SpecText specs (b .specs-listed);
+      names-listed = more-listed itemCount itemListBytes NameText names (b .names-listed) t (omega (arith, p .few)) (p .short) (p .fits);
+    }
+
+shown-more : (specs names : List Text) → Both specs names → (u : Text) (r : Unshown) → unshownReason (length names) (length (recordBytes names)) u r ≡ 0 → Both (specs ++ []) (names ++ unshownNames r)
+shown-more specs names b u (stands t) e = name-more specs names b t e
+shown-more specs names b u (fault k) e = absurd (fault-refuses u k e)
+
 -- a line that is not refused keeps the lists so
 both-more : (specs names : List Text) → Both specs names → (h : Held) → reasonOf (length specs) (length (recordBytes specs)) (length names) (length (recordBytes names)) h ≡ 0 → Both (specs ++ specsIn h) (names ++ namesIn h)
 both-more specs names b nothing e = record { specs-listed = same-listed specCount specListBytes SpecText specs (b .specs-listed); names-listed = same-listed itemCount itemListBytes NameText names (b .names-listed) }
+both-more specs names b marked e = absurd (omega arith)
 both-more specs names b unknown e = absurd (omega arith)
 both-more specs names b (fetch t) e =
     let p = spec-passes (length specs) (length (recordBytes specs)) t e in
@@ -86,12 +102,8 @@ both-more specs names b (fetch t) e =
       names-listed = same-listed itemCount itemListBytes NameText names (b .names-listed);
     }
 both-more specs names b (push t) e = absurd (omega arith)
-both-more specs names b (name t) e =
-    let p = name-passes (length names) (length (recordBytes names)) t e in
-    record {
-      specs-listed = same-listed specCount specListBytes SpecText specs (b .specs-listed);
-      names-listed = more-listed itemCount itemListBytes NameText names (b .names-listed) t (omega (arith, p .few)) (p .short) (p .fits);
-    }
+both-more specs names b (name t) e = name-more specs names b t e
+both-more specs names b (shown u) e = shown-more specs names b u (unshown u) e
 
 -- the lists of a walk are so, from lists that are
 walk-both : (k : ℕ) (specs names lines : List Text) → Both specs names → Both (gather k specs names lines .specs) (gather k specs names lines .names)
@@ -99,7 +111,7 @@ walk-both k specs names [] b = b
 walk-both k specs names (l ∷ lines) b =
     go (reasonOf (length specs) (length (recordBytes specs)) (length names) (length (recordBytes names)) (heldIn l)) refl (λ c. walk-both (k + 1) (specs ++ specsIn (heldIn l)) (names ++ namesIn (heldIn l)) lines c)
   where
-    go : (n : ℕ) → reasonOf (length specs) (length (recordBytes specs)) (length names) (length (recordBytes names)) (heldIn l) ≡ n → (Both (specs ++ specsIn (heldIn l)) (names ++ namesIn (heldIn l)) → Both (gather (k + 1) (specs ++ specsIn (heldIn l)) (names ++ namesIn (heldIn l)) lines .specs) (gather (k + 1) (specs ++ specsIn (heldIn l)) (names ++ namesIn (heldIn l)) lines .names)) → Both (unlessStopped n k specs names (gather (k + 1) (specs ++ specsIn (heldIn l)) (names ++ namesIn (heldIn l)) lines) .specs) (unlessStopped n k specs names (gather (k + 1) (specs ++ specsIn (heldIn l)) (names ++ namesIn (heldIn l)) lines) .names)
+    go : (n : ℕ) → reasonOf (length specs) (length (recordBytes specs)) (length names) (length (recordBytes names)) (heldIn l) ≡ n → (Both (specs ++ specsIn (heldIn l)) (names ++ namesIn (heldIn l)) → Both (gather (k + 1) (specs ++ specsIn (heldIn l)) (names ++ namesIn (heldIn l)) lines .specs) (gather (k + 1) (specs ++ specsIn (heldIn l)) (names ++ namesIn (heldIn l)) lines .names)) → Both (unlessStopped n k l specs names (gather (k + 1) (specs ++ specsIn (heldIn l)) (names ++ namesIn (heldIn l)) lines) .specs) (unlessStopped n k l specs names (gather (k + 1) (specs ++ specsIn (heldIn l)) (names ++ namesIn (heldIn l)) lines) .names)
     go zero e f = f (both-more specs names b (heldIn l) e)
     go (suc n) e f = b
 

@@ -8,15 +8,14 @@ use Rattle.meaning.specs.Bytes.{Text}
 use Rattle.meaning.specs.Limits.{specListBytes, itemListBytes}
 use Rattle.meaning.specs.Number.{recordBytes}
 use Rattle.promises.proofs.Reading.{records-append}
-use Rattle.text.specs.Place.{firstAt}
 use Rattle.buffer.specs.Splice.{splice}
 use Rattle.buffer.proofs.Splices.{splice-none, splice-next, length-splice}
-use Rattle.text_lists.specs.Line.{Held, heldIn}
+use Rattle.text_lists.specs.Line.{linesOf, LineAt, Held, heldIn}
 use Rattle.text_lists.specs.declared.Lists.{Lists}
-use Rattle.text_lists.specs.Gather.{linesOf, reasonOf, specsIn, namesIn, Gathering, unlessStopped, gather, gathered}
+use Rattle.text_lists.specs.Gather.{reasonOf, specsIn, namesIn, Gathering, unlessStopped, gather, gathered}
 use Rattle.text_lists.specs.Growing.{Room, unlessRefused, Grows, LineAdds, Gathers}
 use Rattle.text_lists.proofs.Growth.{refused-none}
-use Rattle.text_lists.proofs.Lines.{line-next, line-none}
+use Rattle.text_lists.proofs.Lines.{line-none}
 
 -- a buffer that was d holds the list of some texts at its start, within its limit
 pub record Holding (limit : ℕ) (d o : Text) (count size : ℕ) : Type 0 where
@@ -73,19 +72,19 @@ unfolding gathered holding-none
 walked-starts input d₁ d₂ = record { at-within = omega arith; line-small = omega arith; specs-kept = refl; names-kept = refl; specs = holding-none specListBytes d₁; names = holding-none itemListBytes d₂; left = refl }
 
 -- a walk that stops, and one that goes on
-stops : (n k : ℕ) (specs names : List Text) (rest : Gathering) → (n ≡ 0 → ⊥) → unlessStopped n k specs names rest ≡ record { line = k; reason = n; specs = specs; names = names }
-stops zero k specs names rest h = absurd (h refl)
-stops (suc n) k specs names rest h = refl
+stops : (n k : ℕ) (l : Text) (specs names : List Text) (rest : Gathering) → (n ≡ 0 → ⊥) → unlessStopped n k l specs names rest ≡ record { line = k; reason = n; text = l; specs = specs; names = names }
+stops zero k l specs names rest h = absurd (h refl)
+stops (suc n) k l specs names rest h = refl
 
-goes-on : (n k : ℕ) (specs names : List Text) (rest whole : Gathering) → n ≡ 0 → unlessStopped n k specs names rest ≡ whole → rest ≡ whole
-goes-on n k specs names rest whole z e = rw z at e
+goes-on : (n k : ℕ) (l : Text) (specs names : List Text) (rest whole : Gathering) → n ≡ 0 → unlessStopped n k l specs names rest ≡ whole → rest ≡ whole
+goes-on n k l specs names rest whole z e = rw z at e
 
 -- all that is new, where there is no reason
 all-new : (limit n : ℕ) (l : List Text) (count size count₂ size₂ : ℕ) (o p : Text) → n ≡ 0 → Grows limit (unlessRefused n l) count size o count₂ size₂ p → Grows limit l count size o count₂ size₂ p
 all-new limit n l count size count₂ size₂ o p z g = rw z at g
 
 -- a line's turn, where the lists are as long as the numbers say
-turn-of : (k : ℕ) (specs names : List Text) (l : Text) (lines : List Text) (a b c d n : ℕ) → a ≡ length specs → b ≡ length (recordBytes specs) → c ≡ length names → d ≡ length (recordBytes names) → n ≡ reasonOf a b c d (heldIn l) → unlessStopped n k specs names (gather (k + 1) (specs ++ specsIn (heldIn l)) (names ++ namesIn (heldIn l)) lines) ≡ gather k specs names (l ∷ lines)
+turn-of : (k : ℕ) (specs names : List Text) (l : Text) (lines : List Text) (a b c d n : ℕ) → a ≡ length specs → b ≡ length (recordBytes specs) → c ≡ length names → d ≡ length (recordBytes names) → n ≡ reasonOf a b c d (heldIn l) → unlessStopped n k l specs names (gather (k + 1) (specs ++ specsIn (heldIn l)) (names ++ namesIn (heldIn l)) lines) ≡ gather k specs names (l ∷ lines)
 turn-of k specs names l lines a b c d n ea eb ec ed e = rw (e, ea, eb, ec, ed)
 
 module _ (input d₁ d₂ : Text) (long₁ : specListBytes ≤ length d₁) (long₂ : itemListBytes ≤ length d₂) (at line : ℕ) (so : Lists) (o₁ o₂ : Text) (w : Walked input d₁ d₂ at line so o₁ o₂) where
@@ -96,12 +95,15 @@ module _ (input d₁ d₂ : Text) (long₁ : specListBytes ≤ length d₁) (lon
   walked-names = holding-room itemListBytes d₂ o₂ (so .names) (so .«names_size») long₂ (w .names)
 
   -- no line is left
-  pub walked-whole : length input ≤ at → Gathers (gathered input) d₁ d₂ o₁ o₂ (record { line = 0; reason = 0; specs = so .«specs_size»; items = so .«names_size» })
+  pub walked-whole : length input ≤ at → Gathers input (gathered input) d₁ d₂ o₁ o₂ (record { line = 0; reason = 0; start = 0; end = 0; specs = so .«specs_size»; items = so .«names_size» })
   walked-whole h =
-      let e : record { line = 0; reason = 0; specs = w .specs .texts; names = w .names .texts } ≡ gathered input = rw (line-none input at h) at (w .left) in
+      let e : record { line = 0; reason = 0; text = []; specs = w .specs .texts; names = w .names .texts } ≡ gathered input = rw (line-none input at h) at (w .left) in
       rw (← e) (record {
         line-is = refl;
         reason-is = refl;
+        text-is = refl;
+        text-starts = omega arith;
+        text-within = omega arith;
         specs-size = w .specs .size-is;
         items-size = w .names .size-is;
         specs-put = w .specs .puts;
@@ -111,26 +113,32 @@ module _ (input d₁ d₂ : Text) (long₁ : specListBytes ≤ length d₁) (lon
       })
 
   -- the next line
-  module _ (h : at < length input) (end : ℕ) (e : end ≡ at + firstAt 10 (drop at input)) (within : end ≤ length input) (r : Lists) (p₁ p₂ : Text) (adds : LineAdds (heldIn (take (end - at) (drop at input))) so r o₁ o₂ p₁ p₂) where
+  module _ (end next : ℕ) (e : LineAt input at end next) (r : Lists) (p₁ p₂ : Text) (adds : LineAdds (heldIn (take (end - at) (drop at input))) so r o₁ o₂ p₁ p₂) where
+    abbrev own : Text
+    own = take (end - at) (drop at input)
+
     abbrev held : Held
-    held = heldIn (take (end - at) (drop at input))
+    held = heldIn own
 
     -- the whole, by this line's reason
-    turn : unlessStopped (r .reason) line (w .specs .texts) (w .names .texts) (gather (line + 1) (w .specs .texts ++ specsIn held) (w .names .texts ++ namesIn held) (linesOf (drop (end + 1) input))) ≡ gathered input
+    turn : unlessStopped (r .reason) line own (w .specs .texts) (w .names .texts) (gather (line + 1) (w .specs .texts ++ specsIn held) (w .names .texts ++ namesIn held) (linesOf (drop next input))) ≡ gathered input
     turn =
-        turn-of line (w .specs .texts) (w .names .texts) (take (end - at) (drop at input)) (linesOf (drop (end + 1) input)) (so .specs) (so .«specs_size») (so .names) (so .«names_size») (r .reason) (w .specs .count-is) (w .specs .size-is) (w .names .count-is) (w .names .size-is) (adds .reason-is)
-        ∙ ap (gather line (w .specs .texts) (w .names .texts)) (sym (line-next input at end h e))
+        turn-of line (w .specs .texts) (w .names .texts) own (linesOf (drop next input)) (so .specs) (so .«specs_size») (so .names) (so .«names_size») (r .reason) (w .specs .count-is) (w .specs .size-is) (w .names .count-is) (w .names .size-is) (adds .reason-is)
+        ∙ ap (gather line (w .specs .texts) (w .names .texts)) (sym (e .is))
         ∙ w .left
 
     -- it is refused
-    pub walked-stop : (r .reason ≡ 0 → ⊥) → Gathers (gathered input) d₁ d₂ p₁ p₂ (record { line = line; reason = r .reason; specs = r .«specs_size»; items = r .«names_size» })
+    pub walked-stop : (r .reason ≡ 0 → ⊥) → Gathers input (gathered input) d₁ d₂ p₁ p₂ (record { line = line; reason = r .reason; start = at; end = end; specs = r .«specs_size»; items = r .«names_size» })
     walked-stop z =
-        let g : record { line = line; reason = r .reason; specs = w .specs .texts; names = w .names .texts } ≡ gathered input = sym (stops (r .reason) line (w .specs .texts) (w .names .texts) _ z) ∙ turn in
+        let g : record { line = line; reason = r .reason; text = own; specs = w .specs .texts; names = w .names .texts } ≡ gathered input = sym (stops (r .reason) line own (w .specs .texts) (w .names .texts) _ z) ∙ turn in
         let s = refused-none (r .reason) (specsIn held) z in
         let n = refused-none (r .reason) (namesIn held) z in
         rw (← g) (record {
           line-is = refl;
           reason-is = refl;
+          text-is = refl;
+          text-starts = e .starts;
+          text-within = omega (arith, e .ends, e .within);
           specs-size = stays-size specListBytes d₁ o₁ (so .specs) (so .«specs_size») (w .specs) (unlessRefused (r .reason) (specsIn held)) s (r .specs) (r .«specs_size») p₁ (adds .specs-grow);
           items-size = stays-size itemListBytes d₂ o₂ (so .names) (so .«names_size») (w .names) (unlessRefused (r .reason) (namesIn held)) n (r .names) (r .«names_size») p₂ (adds .names-grow);
           specs-put = stays-put specListBytes d₁ o₁ (so .specs) (so .«specs_size») (w .specs) (unlessRefused (r .reason) (specsIn held)) s (r .specs) (r .«specs_size») p₁ (adds .specs-grow);
@@ -147,14 +155,14 @@ module _ (input d₁ d₂ : Text) (long₁ : specListBytes ≤ length d₁) (lon
       names-more : Holding itemListBytes d₂ p₂ (r .names) (r .«names_size»)
       names-more = holding-more itemListBytes d₂ o₂ (so .names) (so .«names_size») long₂ (w .names) (namesIn held) (r .names) (r .«names_size») p₂ (all-new itemListBytes (r .reason) (namesIn held) (so .names) (so .«names_size») (r .names) (r .«names_size») o₂ p₂ z (adds .names-grow))
 
-      pub walked-more : Walked input d₁ d₂ (end + 1) (line + 1) r p₁ p₂
+      pub walked-more : Walked input d₁ d₂ next (line + 1) r p₁ p₂
       unfolding specs-more names-more holding-more
       walked-more = record {
-        at-within = omega arith;
-        line-small = omega (arith, w .line-small);
+        at-within = e .within;
+        line-small = omega (arith, w .line-small, e .starts, e .ends);
         specs-kept = holding-kept specListBytes d₁ p₁ (r .specs) (r .«specs_size») long₁ specs-more;
         names-kept = holding-kept itemListBytes d₂ p₂ (r .names) (r .«names_size») long₂ names-more;
         specs = specs-more;
         names = names-more;
-        left = goes-on (r .reason) line (w .specs .texts) (w .names .texts) (gather (line + 1) (w .specs .texts ++ specsIn held) (w .names .texts ++ namesIn held) (linesOf (drop (end + 1) input))) (gathered input) z turn;
+        left = goes-on (r .reason) line own (w .specs .texts) (w .names .texts) (gather (line + 1) (w .specs .texts ++ specsIn held) (w .names .texts ++ namesIn held) (linesOf (drop next input))) (gathered input) z turn;
       }

@@ -1,15 +1,48 @@
-// A line of text as a person writes it: nothing, a spec for fetch or push, a name, or none of these.
+// The lines of a text as a person writes it: where each ends, and what it holds.
 ghost use mathlib.Core.Path.{_≡_};
+ghost use Prim.Native.Nat.{_<_};
+ghost use lib.ListN.{length};
 ghost use Rattle.meaning.specs.Bytes.{every};
-ghost use Rattle.text_lists.specs.Line.{blankByte, TellsLine};
+ghost use Rattle.text_lists.specs.Line.{LineAt, blankByte, TellsLine};
 
-// What a line holds; a spec or a name is the rest of its line from a place on.
+// What a line holds: a spec or a name, which is the rest of the line from a place on, or nothing; a byte order mark stands before anything
+// else.
 pub enum Line {
     Nothing,
     Fetch(usize),
     Push(usize),
     Name(usize),
+    Shown(usize),
+    Marked,
     Unknown,
+}
+
+// Where the text of a line ends, and where the next line begins.
+pub struct Extent {
+    pub end: usize,
+    pub next: usize,
+}
+
+// The line that begins at a place. A carriage return right before its line feed is part of its end.
+pub fn next_line(s: &[u8], at: usize) -> Extent
+    requires { ⌜ at < length (now s) ⌝ }
+    ensures { λ r. ⌜ LineAt (now (s .entry)) at (r .end) (r .next) ⌝ }
+{
+    let feed = text::find_from(s, at, b'\n');
+    let next = feed + 1;
+    if feed == s.len() {
+        return Extent { end: feed, next };
+    }
+    if feed == at {
+        return Extent { end: feed, next };
+    }
+    if s[feed - 1] != b'\r' {
+        return Extent { end: feed, next };
+    }
+    Extent {
+        end: feed - 1,
+        next,
+    }
 }
 
 // A space or a tab.
@@ -54,6 +87,12 @@ pub fn classify(line: &[u8]) -> Line
     }
     if compare::begins(b"name ", line) {
         return Line::Name(5);
+    }
+    if compare::begins(line, b"shown ") {
+        return Line::Shown(6);
+    }
+    if compare::begins(line, b"\xEF\xBB\xBF") {
+        return Line::Marked;
     }
     Line::Unknown
 }

@@ -14,8 +14,8 @@ abbrev μ-loop : tie.MeasureT-loop
 loop-holds : tie.Need-loop-holds Inv-loop μ-loop
 loop-holds c = search needs
 
-find-from-requires : tie.Need-find-from-requires Inv-loop μ-loop
-find-from-requires c κs = search needs
+next-line-requires : tie.Need-next-line-requires Inv-loop μ-loop
+next-line-requires c κs = search needs
 
 sub-show-line : tie.Need-sub-show-line Inv-loop μ-loop
 sub-show-line c = search needs
@@ -28,9 +28,6 @@ part-show-line-end c = search needs
 
 show-line-requires : tie.Need-show-line-requires Inv-loop μ-loop
 show-line-requires c κs = search needs
-
-add-at : tie.Need-add-at Inv-loop μ-loop
-add-at c = search needs
 
 add-number : tie.Need-add-number Inv-loop μ-loop
 add-number c = search needs
@@ -51,12 +48,11 @@ show-lines-spec =
     Inv-loop
     μ-loop
     loop-holds
-    find-from-requires
+    next-line-requires
     sub-show-line
     part-show-line-start
     part-show-line-end
     show-line-requires
-    add-at
     add-number
     loop-less
     loop-again

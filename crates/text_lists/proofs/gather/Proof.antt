@@ -1,8 +1,8 @@
 -- `text_lists::gather` meets its contract: what is gathered and the lines that are left make the whole.
 use Prim.Native.Nat.{_+_, _-_}
 use lib.ListN.{length}
-use borrow.Author.Needs.{needs}
 use Rattle.text_lists.proofs.Walks.{Walked, walked-starts, walked-specs, walked-names, walked-whole, walked-stop, walked-more}
+use borrow.Author.Needs.{needs}
 use Rattle.text_lists.proofs.gather.Statement.{statement}
 use Rattle.text_lists.proofs.gather.Tie as tie
 
@@ -15,8 +15,8 @@ abbrev μ-loop : tie.MeasureT-loop
 loop-holds : tie.Need-loop-holds Inv-loop μ-loop
 loop-holds c = search walked-starts
 
-find-from-requires : tie.Need-find-from-requires Inv-loop μ-loop
-find-from-requires c κs = search needs
+next-line-requires : tie.Need-next-line-requires Inv-loop μ-loop
+next-line-requires c κs = search needs
 
 sub-add-line : tie.Need-sub-add-line Inv-loop μ-loop
 sub-add-line c = search needs
@@ -38,9 +38,6 @@ same-length-2 c = search needs
 
 returns : tie.Need-returns Inv-loop μ-loop
 returns c = search walked-stop
-
-add-at : tie.Need-add-at Inv-loop μ-loop
-add-at c = search needs
 
 add-line : tie.Need-add-line Inv-loop μ-loop
 add-line c = search needs
@@ -67,7 +64,7 @@ gather-spec =
     Inv-loop
     μ-loop
     loop-holds
-    find-from-requires
+    next-line-requires
     sub-add-line
     part-add-line-start
     part-add-line-end
@@ -75,7 +72,6 @@ gather-spec =
     same-length
     same-length-2
     returns
-    add-at
     add-line
     loop-less
     loop-again

@@ -1,5 +1,5 @@
 -- Each branch is one kind of line. Assumes nothing.
-use Rattle.text_lists.proofs.LineKinds.{line-blank, line-comment, line-fetch, line-push, line-name, line-unknown}
+use Rattle.text_lists.proofs.LineKinds.{line-blank, line-comment, line-fetch, line-push, line-name, line-shown, line-marked, line-unknown}
 use borrow.Author.Needs.{needs}
 use Rattle.text_lists.proofs.line.classify.Statement.{statement}
 use Rattle.text_lists.proofs.line.classify.Tie as tie
@@ -46,8 +46,26 @@ begins-requires-4 c κs = search needs
 returns-5 : tie.Need-returns-5
 returns-5 c = search line-name
 
+slice-aggregate-begins-5 : tie.Need-slice-aggregate-begins-5
+slice-aggregate-begins-5 c = search needs
+
+begins-requires-5 : tie.Need-begins-requires-5
+begins-requires-5 c κs = search needs
+
 returns-6 : tie.Need-returns-6
-returns-6 c = search line-unknown
+returns-6 c = search line-shown
+
+slice-aggregate-begins-6 : tie.Need-slice-aggregate-begins-6
+slice-aggregate-begins-6 c = search needs
+
+begins-requires-6 : tie.Need-begins-requires-6
+begins-requires-6 c κs = search needs
+
+returns-7 : tie.Need-returns-7
+returns-7 c = search line-marked
+
+returns-8 : tie.Need-returns-8
+returns-8 c = search line-unknown
 
 pub classify-spec : {M : Type 1} → statement M
 classify-spec =
@@ -67,4 +85,10 @@ classify-spec =
     slice-aggregate-begins-4
     begins-requires-4
     returns-5
-    returns-6)
+    slice-aggregate-begins-5
+    begins-requires-5
+    returns-6
+    slice-aggregate-begins-6
+    begins-requires-6
+    returns-7
+    returns-8)
