@@ -79,7 +79,7 @@ module _ (k n : ℕ) (some : k ≡ 0 → ⊥) where
   more-counted h r e = rw (more-digits k n some h) (omega (arith, length-append (digits (k - 1) (n / 10)) ((48 + n % 10) ∷ [])))
 
 -- never more than are asked for
-digits-few : (k n : ℕ) → length (digits k n) ≤ k
+pub digits-few : (k n : ℕ) → length (digits k n) ≤ k
 digits-few zero n = omega arith
 digits-few (suc k) n = go (digits-few k (n / 10)) (ltb n 10)
   where

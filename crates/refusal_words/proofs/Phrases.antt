@@ -1,16 +1,16 @@
 -- The rule of the table of phrases: one test of the whole table, and what it says of each entry. Assumes nothing.
-use mathlib.Core.Path.{_≡_, sym}
+use mathlib.Core.Path.{_≡_, refl, sym}
 use mathlib.Core.Bool.{Bool, true, false, false≢true}
 use mathlib.Core.List.{List, [], _∷_}
-use Prim.Native.Nat.{ℕ, zero, suc, _≤_, _<_}
+use Prim.Native.Nat.{ℕ, zero, suc, _-_, _≤_, _<_}
 use native.Mathlib.Omega.{arith}
-use borrow.Author.Tests.{eqb-true, leb-true, le-leb, lt-leb, ne-eqb}
+use borrow.Author.Tests.{eqb-true, leb-true, le-leb, lt-leb}
 use lib.Dec.{eqb, leb}
 use lib.ListN.{length, take, getD}
 use lib.Seq.{length-take-le}
-use Rattle.meaning.specs.Bytes.{Text, _and_, same}
+use Rattle.meaning.specs.Bytes.{Text, _and_, every, same}
 use Rattle.promises.proofs.Laws.{and-left, and-right, same-is}
-use Rattle.refusal_words.specs.Words.{placeOf, phraseAt, reasonWords, padded, Spells}
+use Rattle.refusal_words.specs.Words.{phrases, placeOf, phraseAt, reasonWords, padded, Spells}
 use Rattle.refusal_words.specs.declared.Words.{Words}
 
 -- an entry spells a phrase
@@ -45,22 +45,35 @@ pub reason-spelled : (n k : ℕ) (array : Text) (size : ℕ) → k ≡ placeOf n
 unfolding reasonWords
 reason-spelled n k array size e s = rw (← e) s
 
+-- no phrase has more bytes than an entry holds
+abbrev short : Text → Bool
+short t = leb (length t) 60
+
+short-at : (ts : List Text) → every short ts ≡ true → (k : ℕ) → length (getD ts k []) ≤ 60
+short-at [] r k = omega arith
+short-at (t ∷ ts) r zero = leb-true (length t) 60 (and-left (short t) (every short ts) r)
+short-at (t ∷ ts) r (suc k) = short-at ts (and-right (short t) (every short ts) r) k
+
+pub reason-short : (n : ℕ) → length (reasonWords n) ≤ 60
+unfolding reasonWords
+reason-short n = short-at phrases refl (placeOf n)
+
 -- the places of the phrases
 pub place-number : (n : ℕ) → n ≤ 15 → n ≡ placeOf n
 unfolding placeOf
 place-number n h = rw (le-leb n 15 h)
 
-pub place-push : (n : ℕ) → 15 < n → n ≡ 101 → 16 ≡ placeOf n
+pub place-between : (n : ℕ) → 15 < n → n < 101 → 0 ≡ placeOf n
 unfolding placeOf
-place-push n h e = rw e
+place-between n h l = rw (lt-leb n 15 h, lt-leb 101 n l)
 
-pub place-unknown : (n : ℕ) → 15 < n → n ≡ 102 → 17 ≡ placeOf n
+pub place-own : (n : ℕ) → 101 ≤ n → n ≤ 106 → n - 85 ≡ placeOf n
 unfolding placeOf
-place-unknown n h e = rw e
+place-own n h l = rw (lt-leb n 15 (omega arith), le-leb 101 n h, le-leb n 106 l)
 
-pub place-other : (n : ℕ) → 15 < n → (n ≡ 101 → ⊥) → (n ≡ 102 → ⊥) → 0 ≡ placeOf n
+pub place-above : (n : ℕ) → 106 < n → 0 ≡ placeOf n
 unfolding placeOf
-place-other n h a b = rw (lt-leb n 15 h, ne-eqb n 101 a, ne-eqb n 102 b)
+place-above n h = rw (lt-leb n 15 (omega arith), le-leb 101 n (omega arith), lt-leb n 106 h)
 
 -- as many bytes are there as count
 pub spells-taken : (t array : Text) (size : ℕ) → Spells t array size → size ≡ length (take size array)

@@ -7,7 +7,7 @@ ghost use Rattle.refusal_words.specs.Words.{placeOf, phraseAt, reasonWor
 pub struct Words(pub [u8; 60], pub usize);
 
 // The phrases, by their places.
-const TABLE: [Words; 18] = [
+const TABLE: [Words; 22] = [
     Words(
         *b"it is refused\0\0\0\0\0\0\0\0\0\0\0\0\0\0\0\0\0\0\0\0\0\0\0\0\0\0\0\0\0\0\0\0\0\0\0\0\0\0\0\0\0\0\0\0\0\0\0",
         13,
@@ -77,14 +77,30 @@ const TABLE: [Words; 18] = [
         37,
     ),
     Words(
-        *b"neither `fetch SPEC` nor `name NAME`\0\0\0\0\0\0\0\0\0\0\0\0\0\0\0\0\0\0\0\0\0\0\0\0",
-        36,
+        *b"no `fetch SPEC`, `push SPEC`, `name NAME` or `shown =NAME`\0\0",
+        58,
+    ),
+    Words(
+        *b"it begins with a byte order mark, the bytes EF BB BF\0\0\0\0\0\0\0\0",
+        52,
+    ),
+    Words(
+        *b"what is shown does not begin with `=`\0\0\0\0\0\0\0\0\0\0\0\0\0\0\0\0\0\0\0\0\0\0\0",
+        37,
+    ),
+    Words(
+        *b"two capital hexadecimal digits do not follow a `%`\0\0\0\0\0\0\0\0\0\0",
+        50,
+    ),
+    Words(
+        *b"a listing shows such a byte as `%` and two digits\0\0\0\0\0\0\0\0\0\0\0",
+        49,
     ),
 ];
 
 // The phrase at a place of the table.
 fn phrase(k: usize) -> Words
-    requires { ⌜ k < 18 ⌝ }
+    requires { ⌜ k < 22 ⌝ }
     ensures { λ r. ⌜ Spells (phraseAt k) (r .0) (r .1) ⌝ }
 {
     TABLE[k]
@@ -92,16 +108,16 @@ fn phrase(k: usize) -> Words
 
 // The place of the phrase for a reason.
 fn place(n: u64) -> usize
-    ensures { λ r. ⌜ (r ≡ placeOf n) × (r < 18) ⌝ }
+    ensures { λ r. ⌜ (r ≡ placeOf n) × (r < 22) ⌝ }
 {
     if n <= 15 {
         return n as usize;
     }
-    if n == 101 {
-        return 16;
+    if n < 101 {
+        return 0;
     }
-    if n == 102 {
-        return 17;
+    if n <= 106 {
+        return (n - 85) as usize;
     }
     0
 }

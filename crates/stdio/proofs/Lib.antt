@@ -1,0 +1,2 @@
+-- `Counting`: what is read ends within the buffer.
+pub mod Counting

@@ -1,0 +1,2 @@
+-- `Streams`: what reading answers.
+pub mod Streams
