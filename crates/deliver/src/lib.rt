@@ -16,9 +16,6 @@ use number::Number;
 use print::line::put_refusal;
 use rows::print_rows;
 
-// Room for an input and one byte above its limit, so that a longer one shows.
-pub const INPUT_ROOM: usize = PROGRAM_BYTES + 1;
-
 // Prints what a spec list and an item list give at the start of `out`, and answers how many bytes it printed. `rows` is scratch, for the row
 // list; what it holds afterwards is left open.
 pub fn print_lists(specs: &[u8], items: &[u8], rows: &mut [u8], out: &mut [u8]) -> usize

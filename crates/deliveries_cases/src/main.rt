@@ -1,11 +1,11 @@
 // Hands many inputs to the function behind the program `deliveries`, which standard input brings one after the other, each after its
 // length in four bytes, the lowest first, and writes what each prints after a line with its number.
 ghost use Prim.Native.Nat.{_<_};
-use deliver::INPUT_ROOM;
 use deliver::deliver;
 use libc::STDIN_FILENO;
 use libc::STDOUT_FILENO;
 use limits::PROGRAM_BYTES;
+use stdio::INPUT_ROOM;
 
 // A byte as a number.
 fn wide(b: u8) -> usize

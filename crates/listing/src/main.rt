@@ -1,29 +1,31 @@
-// Reads specs and names as lines of text, `fetch SPEC` or `name NAME`, and prints what the specs map which names to. Blank lines and lines
-// that begin with `#` are passed over. A line that is refused is named alone, with the reason.
+// Reads specs and names as lines of text, `fetch SPEC`, `name NAME` or `shown =NAME`, and prints what the specs map which names to. Blank
+// lines and lines that begin with `#` are passed over. The first line that is refused is told on standard error, and so is what cannot be
+// read or written.
 ghost use Prim.Native.Nat.{_≤_};
 ghost use lib.ListN.{length};
 ghost use Rattle.meaning.specs.Limits.{programBytes};
 use deliver::print_lists;
-use libc::STDIN_FILENO;
-use libc::STDOUT_FILENO;
 use limits::ITEM_LIST_BYTES;
 use limits::PROGRAM_BYTES;
 use limits::SPEC_LIST_BYTES;
-use refusal_words::reason;
+use refused_line::MESSAGE_ROOM;
+use refused_line::put_refused;
+use stdio::INPUT_ROOM;
+use stdio::Input;
+use stdio::finish;
+use stdio::read_input;
+use stdio::say;
+use stdio::tell;
+use stdio::tell_unread;
 use text_lists::gather;
-
-// Prints bytes as they are.
-fn say(t: &[u8]) {
-    io::write_all(STDOUT_FILENO, t);
-}
 
 // Prints a listing. Its header does not begin so: this is 17, the one refusal of lists that were gathered.
 fn show_printed(t: &[u8]) {
     if compare::begins(b"refused ", t) {
-        say(b"the listing is above 65,536 bytes\n");
+        tell(b"the listing is above 65,536 bytes\n");
         return;
     }
-    say(t);
+    finish(say(true, t));
 }
 
 // Prints the listing of a spec list and an item list.
@@ -34,16 +36,13 @@ fn show_lists(specs: &[u8], items: &[u8]) {
     show_printed(&out[..size]);
 }
 
-// Names the line that is refused, with the reason.
-fn show_refused(line: u64, number: u64) {
-    say(b"line ");
-    io::print_decimal(STDOUT_FILENO, line);
-    say(b": ");
-    let words = reason(number);
-    let t = words.0;
-    let n = words.1;
-    say(&t[..n]);
-    say(b"\n");
+// Tells which line is refused, and why.
+fn tell_refused(number: usize, reason: u64, line: &[u8])
+    requires { ⌜ length (now line) ≤ programBytes ⌝ }
+{
+    let mut out = [0u8; MESSAGE_ROOM];
+    let n = put_refused(&mut out, number, reason, line);
+    tell(&out[..n]);
 }
 
 // Prints what the lines of a text give.
@@ -54,7 +53,9 @@ fn show(input: &[u8])
     let mut items = [0u8; ITEM_LIST_BYTES];
     let g = gather(input, &mut specs, &mut items);
     if g.reason != 0 {
-        show_refused(g.line as u64, g.reason);
+        let start = g.start;
+        let end = g.end;
+        tell_refused(g.line, g.reason, &input[start..end]);
         return;
     }
     let n = g.specs;
@@ -62,14 +63,21 @@ fn show(input: &[u8])
     show_lists(&specs[..n], &items[..m]);
 }
 
-fn main() {
-    let mut input = [0u8; PROGRAM_BYTES];
-    let n = io::read_full(STDIN_FILENO, &mut input);
-    let mut more = [0u8; 1];
-    let beyond = io::read_full(STDIN_FILENO, &mut more);
-    if beyond != 0 {
-        say(b"the input is above 65,536 bytes\n");
+// Prints what the first n bytes of a buffer give, unless they are too many.
+fn show_first(buffer: &[u8], n: usize)
+    requires { ⌜ n ≤ length (now buffer) ⌝ }
+{
+    if PROGRAM_BYTES < n {
+        tell(b"the input is above 65,536 bytes\n");
         return;
     }
-    show(&input[..n]);
+    show(&buffer[..n]);
+}
+
+fn main() {
+    let mut input = [0u8; INPUT_ROOM];
+    match read_input(&mut input) {
+        Input::Read(n) => show_first(&input, n),
+        Input::Failed => tell_unread(),
+    }
 }

@@ -1,71 +1,90 @@
-// Reads specs as lines of text, `fetch SPEC` or `push SPEC`, and prints what each becomes. Blank lines, lines that begin with `#` and
-// names are passed over.
+// Reads specs as lines of text, `fetch SPEC` or `push SPEC`, and prints what each becomes. Blank lines, lines that begin with `#` and names
+// are passed over. Where lines are refused, each of them is told on standard error and nothing is printed; what cannot be read or written
+// is told there too.
 ghost use Prim.Native.Nat.{_≤_};
 ghost use lib.ListN.{length};
 ghost use Rattle.meaning.specs.Limits.{programBytes};
-use libc::STDIN_FILENO;
 use limits::PROGRAM_BYTES;
+use stdio::INPUT_ROOM;
+use stdio::Input;
+use stdio::finish;
+use stdio::read_input;
+use stdio::tell;
+use stdio::tell_unread;
 use text_lists::line::Line;
 use text_lists::line::classify;
 use text_lists::line::next_line;
 
-mod print;
+mod output;
+mod refused;
 mod show;
 
-use print::say;
-use print::say_line;
+use refused::tell_lines;
 use show::show_spec;
 
-// Names a line and says what is wrong with it.
-fn complain(number: u64, what: &[u8]) {
-    say_line(number);
-    say(what);
-    say(b"\n");
+// Prints what the spec that begins at a place of its line becomes.
+fn show_from(whole: bool, number: usize, op: u64, line: &[u8], start: usize) -> bool {
+    if start <= line.len() {
+        return show_spec(whole, number, op, &line[start..]);
+    }
+    whole
 }
 
 // Prints what a line becomes.
-fn show_line(number: u64, line: &[u8]) {
+fn show_line(whole: bool, number: usize, line: &[u8]) -> bool {
     match classify(line) {
-        Line::Nothing => (),
-        Line::Fetch(start) => show_from(number, 0, line, start),
-        Line::Push(start) => show_from(number, 1, line, start),
-        Line::Name(_) => (),
-        Line::Shown(_) => (),
-        Line::Marked => complain(number, b"it begins with a byte order mark"),
-        Line::Unknown => complain(number, b"neither `fetch SPEC` nor `push SPEC`"),
-    }
-}
-
-// Prints what the spec that begins at a place of its line becomes.
-fn show_from(number: u64, op: u64, line: &[u8], start: usize) {
-    if start <= line.len() {
-        show_spec(number, op, &line[start..]);
+        Line::Nothing => whole,
+        Line::Fetch(start) => show_from(whole, number, 0, line, start),
+        Line::Push(start) => show_from(whole, number, 1, line, start),
+        Line::Name(_) => whole,
+        Line::Shown(_) => whole,
+        Line::Marked => whole,
+        Line::Unknown => whole,
     }
 }
 
 // Prints what each line becomes.
-fn show_lines(s: &[u8])
+fn show_lines(s: &[u8]) -> bool
     requires { ⌜ length (now s) ≤ programBytes ⌝ }
 {
+    let mut whole = true;
     let mut at = 0;
-    let mut number: u64 = 1;
+    let mut number: usize = 1;
     while at < s.len() {
         let extent = next_line(s, at);
         let end = extent.end;
-        show_line(number, &s[at..end]);
+        whole = show_line(whole, number, &s[at..end]);
         at = extent.next;
         number += 1;
     }
+    whole
+}
+
+// Tells the lines that are refused, or prints what each line becomes.
+fn answer(s: &[u8])
+    requires { ⌜ length (now s) ≤ programBytes ⌝ }
+{
+    if tell_lines(s) {
+        return;
+    }
+    finish(show_lines(s));
+}
+
+// The same of the first n bytes of a buffer, unless they are too many.
+fn show_first(buffer: &[u8], n: usize)
+    requires { ⌜ n ≤ length (now buffer) ⌝ }
+{
+    if PROGRAM_BYTES < n {
+        tell(b"the input is above 65,536 bytes\n");
+        return;
+    }
+    answer(&buffer[..n]);
 }
 
 fn main() {
-    let mut input = [0u8; PROGRAM_BYTES];
-    let n = io::read_full(STDIN_FILENO, &mut input);
-    let mut more = [0u8; 1];
-    let beyond = io::read_full(STDIN_FILENO, &mut more);
-    if beyond != 0 {
-        say(b"the input is above 65,536 bytes\n");
-        return;
+    let mut input = [0u8; INPUT_ROOM];
+    match read_input(&mut input) {
+        Input::Read(n) => show_first(&input, n),
+        Input::Failed => tell_unread(),
     }
-    show_lines(&input[..n]);
 }

@@ -10,7 +10,9 @@ use mir.ValLaws.{toZ-ofZ}
 use lib.IntN.{ℤ, pos, negsuc}
 use lib.Signed.{ltZ}
 use lib.ListN.{length, take, drop, length-take, length-drop}
-use Rattle.stdio.specs.Streams.{failed}
+use Rattle.stdio.specs.declared.Input.{Input}
+use Rattle.stdio.specs.declared.Input.the-variants.{Read, Failed}
+use Rattle.stdio.specs.Streams.{failed, ReadWithin}
 
 -- a number below 0 is negative
 negative : (z : ℤ) → ltZ z (pos 0) ≡ failed z
@@ -27,3 +29,7 @@ module _ (n at : ℕ) (b : List ℕ) (counts : n ≤ length (take (length b - at
 
   pub count-fits : Fits w64 (length b) → Fits w64 (at + n)
   count-fits f = omega (arith, count-within)
+
+-- what was read stands within the buffer
+pub read-within : (len : ℕ) (r : Input) (n : ℕ) → ReadWithin len r → r ≡ Read n → n ≤ len
+read-within len r n h e = rw e at h

@@ -6,6 +6,10 @@ ghost use Rattle.stdio.specs.Streams.{failed, ReadWithin};
 use libc::STDERR_FILENO;
 use libc::STDIN_FILENO;
 use libc::STDOUT_FILENO;
+use limits::PROGRAM_BYTES;
+
+// Room for an input and one byte above its limit, so that a longer one shows.
+pub const INPUT_ROOM: usize = PROGRAM_BYTES + 1;
 
 // How many bytes were read, up to the end of the input or of the buffer, or that a read failed.
 pub enum Input {

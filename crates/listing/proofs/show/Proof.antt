@@ -1,4 +1,4 @@
--- `listing::show` meets its contract: the lists stand in their buffers.
+-- `listing::show` meets its contract: the refused line stands in the input, and the lists stand in their buffers.
 use native.Mathlib.Omega.{arith}
 use lib.ListN.{length-take}
 use borrow.Author.Needs.{needs}
@@ -14,8 +14,17 @@ slice-aggregate-gather-2 c = search needs
 gather-requires : tie.Need-gather-requires
 gather-requires c κs = search needs
 
-show-refused-requires : tie.Need-show-refused-requires
-show-refused-requires c κs = search needs
+sub-tell-refused : tie.Need-sub-tell-refused
+sub-tell-refused c = search needs
+
+part-tell-refused-start : tie.Need-part-tell-refused-start
+part-tell-refused-start c = search needs
+
+part-tell-refused-end : tie.Need-part-tell-refused-end
+part-tell-refused-end c = search needs
+
+tell-refused-requires : tie.Need-tell-refused-requires
+tell-refused-requires c κs = search needs
 
 returns : tie.Need-returns
 returns c = search needs
@@ -45,7 +54,10 @@ show-spec =
     slice-aggregate-gather
     slice-aggregate-gather-2
     gather-requires
-    show-refused-requires
+    sub-tell-refused
+    part-tell-refused-start
+    part-tell-refused-end
+    tell-refused-requires
     returns
     array-share-prefix-specs
     slice-aggregate-show-lists

@@ -6,10 +6,10 @@ use Rattle.specs.proofs.show_lines.Statement.{statement}
 use Rattle.specs.proofs.show_lines.Tie as tie
 
 abbrev Inv-loop : tie.InvT-loop
-Inv-loop s at₀ number₀ at number = (at ≤ length s + 1) × (number ≤ at + 1)
+Inv-loop s whole₀ at₀ number₀ whole at number = (at ≤ length s + 1) × (number ≤ at + 1)
 
 abbrev μ-loop : tie.MeasureT-loop
-μ-loop s at₀ number₀ at number = length s + 1 - at
+μ-loop s whole₀ at₀ number₀ whole at number = length s + 1 - at
 
 loop-holds : tie.Need-loop-holds Inv-loop μ-loop
 loop-holds c = search needs

@@ -5,10 +5,10 @@ use Rattle.specs.proofs.show.show_records.Statement.{statement}
 use Rattle.specs.proofs.show.show_records.Tie as tie
 
 abbrev Inv-loop : tie.InvT-loop
-Inv-loop list at₀ k₀ at k = k ≤ 6
+Inv-loop whole list so₀ k₀ so k = k ≤ 6
 
 abbrev μ-loop : tie.MeasureT-loop
-μ-loop list at₀ k₀ at k = 6 - k
+μ-loop whole list so₀ k₀ so k = 6 - k
 
 loop-holds : tie.Need-loop-holds Inv-loop μ-loop
 loop-holds c = search needs

@@ -2,14 +2,14 @@
 use Prim.Native.Nat.{_≤_, _-_}
 use lib.ListN.{length}
 use borrow.Author.Needs.{needs}
-use Rattle.specs.proofs.print.say_text.Statement.{statement}
-use Rattle.specs.proofs.print.say_text.Tie as tie
+use Rattle.specs.proofs.output.say_text.Statement.{statement}
+use Rattle.specs.proofs.output.say_text.Tie as tie
 
 abbrev Inv-loop : tie.InvT-loop
-Inv-loop t i₀ i = i ≤ length t
+Inv-loop whole t w₀ i₀ w i = i ≤ length t
 
 abbrev μ-loop : tie.MeasureT-loop
-μ-loop t i₀ i = length t - i
+μ-loop whole t w₀ i₀ w i = length t - i
 
 loop-holds : tie.Need-loop-holds Inv-loop μ-loop
 loop-holds c = search needs
