@@ -6,11 +6,11 @@ use Prim.Native.Nat.{ℕ, zero, suc, _-_, _≤_, _<_}
 use native.Mathlib.Omega.{arith}
 use borrow.Author.Tests.{eqb-true, leb-true, le-leb, lt-leb}
 use lib.Dec.{eqb, leb}
-use lib.ListN.{length, take, getD}
-use lib.Seq.{length-take-le}
+use lib.ListN.{length, take, getD, replicate}
+use lib.Seq.{length-take-le, take-at}
 use Rattle.meaning.specs.Bytes.{Text, _and_, every, same}
 use Rattle.promises.proofs.Laws.{and-left, and-right, same-is}
-use Rattle.refusal_words.specs.Words.{phrases, placeOf, phraseAt, reasonWords, padded, Spells}
+use Rattle.refusal_words.specs.Words.{phrases, placeOf, phraseAt, reasonWords, wordsRoom, padded, Spells}
 use Rattle.refusal_words.specs.declared.Words.{Words}
 
 -- an entry spells a phrase
@@ -74,6 +74,10 @@ place-own n h l = rw (lt-leb n 15 (omega arith), le-leb 101 n h, le-leb n 106 l)
 pub place-above : (n : ℕ) → 106 < n → 0 ≡ placeOf n
 unfolding placeOf
 place-above n h = rw (lt-leb n 15 (omega arith), le-leb 101 n (omega arith), lt-leb n 106 h)
+
+-- the bytes that count are the text
+pub spells-text : (t array : Text) (size : ℕ) → Spells t array size → take size array ≡ t
+spells-text t array size s = rw (s .spells) (take-at t (replicate (wordsRoom - length t) 0) size (sym (s .counts)))
 
 -- as many bytes are there as count
 pub spells-taken : (t array : Text) (size : ℕ) → Spells t array size → size ≡ length (take size array)

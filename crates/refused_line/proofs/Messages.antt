@@ -6,7 +6,7 @@ use Prim.Native.Nat.{ℕ, zero, suc, _+_, _-_, _/_, _%_, _<_, _≤_}
 use native.Mathlib.Omega.{arith}
 use borrow.Author.Tests.{eq-eqb, ne-eqb, le-leb, lt-leb}
 use lib.Dec.{eqb, leb}
-use lib.ListN.{length, take, getD, length-append}
+use lib.ListN.{length, take, getD, replicate, length-append}
 use lib.Seq.{length-take-le}
 use Rattle.meaning.specs.Bytes.{Text, bytes, _and_}
 use Rattle.meaning.specs.Deliveries.{digits, capitalDigit}
@@ -16,7 +16,7 @@ use Rattle.buffer.proofs.Pairs.{pair-first, pair-second, pair-put, pair-end}
 use Rattle.buffer.proofs.Threes.{three-first, three-second, three-third, three-put, three-end}
 use Rattle.print.proofs.Decimals.{digits-few}
 use Rattle.refusal_words.specs.Words.{reasonWords, Spells}
-use Rattle.refusal_words.proofs.Phrases.{reason-short}
+use Rattle.refusal_words.proofs.Phrases.{reason-short, spells-text}
 use Rattle.refused_line.specs.Byte.{lineByte}
 use Rattle.refused_line.specs.Message.{mostDigits, numeral, hexadecimal, byteItself, byteWords, byteTold, lineTold, refusedLine, messageMost}
 
@@ -43,7 +43,7 @@ module _ (t array : Text) (size : ℕ) (s : Spells t array size) (d : Text) (at 
   words-room h = omega (arith, s .counts)
 
   pub words-put : (o : Text) → o ≡ splice d at (take size array) → o ≡ splice d at t
-  words-put o e = e ∙ ap (splice d at) (s .spells)
+  words-put o e = e ∙ ap (splice d at) (spells-text t array size s)
 
   pub words-end : (r : ℕ) → r ≡ at + size → r ≡ at + length t
   words-end r e = omega (arith, s .counts)
@@ -55,9 +55,9 @@ pub taken-end : (array : Text) (at size r : ℕ) → size ≤ length array → r
 taken-end array at size r l e = omega (arith, length-take-le size array l)
 
 -- a byte as a number
-pub hexadecimal-spelled : (b x y : ℕ) (rest : Text) → x ≡ capitalDigit (b / 16) → y ≡ capitalDigit (b % 16) → Spells (hexadecimal b) (48 ∷ 120 ∷ x ∷ y ∷ rest) 4
+pub hexadecimal-spelled : (b x y : ℕ) → x ≡ capitalDigit (b / 16) → y ≡ capitalDigit (b % 16) → Spells (hexadecimal b) (48 ∷ 120 ∷ x ∷ y ∷ replicate 56 0) 4
 unfolding hexadecimal
-hexadecimal-spelled b x y rest ex ey = record { spells = rw (ex, ey); counts = refl; within = omega arith }
+hexadecimal-spelled b x y ex ey = record { spells = rw (ex, ey); counts = refl; within = omega arith }
 
 -- a byte in words, by what it is
 module _ (b : ℕ) (array : Text) (size : ℕ) where

@@ -88,7 +88,7 @@ fn split(t: &[u8]) -> Sides
     ensures { λ r. ⌜ SidesAt (now (t .entry)) (r .start) (r .end) (r .rest) ⌝ }
 {
     let start = sign_size(t);
-    let n = past_last(&t[start..], b':');
+    let n = past_last(b':', &t[start..]);
     if n == 0 {
         return Sides {
             start,

@@ -28,7 +28,7 @@ pub fn next_line(s: &[u8], at: usize) -> Extent
     requires { ⌜ at < length (now s) ⌝ }
     ensures { λ r. ⌜ LineAt (now (s .entry)) at (r .end) (r .next) ⌝ }
 {
-    let feed = text::find_from(s, at, b'\n');
+    let feed = text::find_from(b'\n', s, at);
     let next = feed + 1;
     if feed == s.len() {
         return Extent { end: feed, next };
@@ -88,10 +88,10 @@ pub fn classify(line: &[u8]) -> Line
     if compare::begins(b"name ", line) {
         return Line::Name(5);
     }
-    if compare::begins(line, b"shown ") {
+    if compare::begins(b"shown ", line) {
         return Line::Shown(6);
     }
-    if compare::begins(line, b"\xEF\xBB\xBF") {
+    if compare::begins(b"\xEF\xBB\xBF", line) {
         return Line::Marked;
     }
     Line::Unknown
