@@ -1,12 +1,12 @@
 -- Which byte of a line a refusal is about, counted from 1; 0 where it is about none.
 use Prim.Native.Nat.{ℕ, zero, suc, _+_, _-_, _≤_}
 use mathlib.Core.Path.{_≡_}
-use mathlib.Core.Bool.{Bool, not, cond}
+use mathlib.Core.Bool.{Bool, true, false, not, cond}
 use mathlib.Core.List.{[], _∷_}
 use lib.Dec.{eqb, ltb}
 use lib.ListN.{length, take, drop}
-use Rattle.meaning.specs.Bytes.{Text, bytes}
-use Rattle.meaning.specs.Names.{starAsA}
+use Rattle.meaning.specs.Bytes.{Text, bytes, any}
+use Rattle.meaning.specs.Names.{starAsA, sidePasses}
 use Rattle.meaning.specs.Spec.{modeOf, unsigned, sidesOf, left, right}
 use Rattle.text.specs.Last.{later}
 use Rattle.name.specs.Rules.{nameByte}
@@ -31,6 +31,10 @@ byteAfter k t = cond (ltb k (length t)) (suc k) 0
 -- a byte that the name rules refuse wherever it stands; a star is read as the letter a
 unfoldable pub refusedByte : ℕ → Bool
 refusedByte b = not (nameByte (starAsA b))
+
+-- so a side that passes them has none
+abbrev pub NoNameHas : Type 0
+NoNameHas = (s : Text) → sidePasses s ≡ true → any refusedByte s ≡ false
 
 -- the first byte of a spec's source that they refuse: it follows the sign
 unfoldable pub sourceByte : Text → ℕ
