@@ -12,7 +12,7 @@ use Rattle.promises.proofs.Captures.{begins-is, ends-is}
 use Rattle.text.proofs.Rests.{rest-part}
 use Rattle.glob.specs.declared.Captured.{Captured}
 use Rattle.glob.specs.declared.Captured.the-variants.{None, Part}
-use Rattle.glob.specs.Captures.{captureMeant, CaptureWithin}
+use Rattle.glob.specs.Captures.{captureMeant, endedAt, capturedAt, CaptureWithin}
 
 -- a start is no longer than its name
 pub begins-short : (p s : Text) (r : Bool) → not r ≡ false → r ≡ begins p s → length p ≤ length s
@@ -30,6 +30,12 @@ module _ (name : Text) (from : ℕ) (b : Text) (r : Bool) (e : r ≡ ends b (tak
   -- no end, nothing before it
   pub end-none : not r ≡ true → captureMeant name None ≡ before b (drop from name)
   end-none n = let f : ends b (drop from name) ≡ false = sym asked ∙ not-true r n in rw f
+
+  pub end-off : not r ≡ true → None ≡ endedAt name from b
+  end-off n = let f : ends b (drop from name) ≡ false = sym asked ∙ not-true r n in rw f
+
+  pub end-at : not r ≡ false → Part from (length name - from - length b) ≡ endedAt name from b
+  end-at n = let f : ends b (drop from name) ≡ true = sym asked ∙ not-false r n in rw f
 
   module _ (t : not r ≡ false) (w : from ≤ length name) where
     -- the end stands within what is left
@@ -54,7 +60,18 @@ pub start-after : (a b name : Text) (r : Bool) → r ≡ begins a name → not r
 unfolding capture
 start-after a b name r e t c h = let f : begins a name ≡ true = sym e ∙ not-false r t in rw f h
 
+pub start-off : (a b name : Text) (r : Bool) → r ≡ begins a name → not r ≡ true → None ≡ capturedAt a b name
+unfolding capturedAt
+start-off a b name r e n = let f : begins a name ≡ false = sym e ∙ not-true r n in rw f
+
+pub start-at : (a b name : Text) (r : Bool) → r ≡ begins a name → not r ≡ false → (c : Captured) → c ≡ endedAt name (length a) b → c ≡ capturedAt a b name
+unfolding capturedAt
+start-at a b name r e t c h = let f : begins a name ≡ true = sym e ∙ not-false r t in rw f h
+
 -- the two parts of a text beside its star
+pub star-at : (t : Text) (star : ℕ) (name : Text) (c : Captured) → c ≡ capturedAt (take star t) (take (length t - (star + 1)) (drop (star + 1) t)) name → c ≡ capturedAt (take star t) (drop (suc star) t) name
+star-at t star name c h = rw (rest-part t (star + 1), add-one) at h
+
 pub star-parts : (t : Text) (star : ℕ) (name : Text) (c : Captured)
     → captureMeant name c ≡ capture (take star t) (take (length t - (star + 1)) (drop (star + 1) t)) name
     → captureMeant name c ≡ capture (take star t) (drop (suc star) t) name

@@ -72,7 +72,8 @@ fn note_specs(
     count
 }
 
-// Notes the specs of a group, the first n records of a table, which are lent; how many negatives there are.
+// Notes the specs of a group, the first n records of a table, which are lent; how many negatives there are. What stands in the two tables
+// after these is left open.
 pub fn note_group(
     specs: &[u8],
     records: [SpecRecord; SPEC_COUNT],

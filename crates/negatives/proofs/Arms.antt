@@ -1,5 +1,5 @@
 -- A `match` on a negative, on its number, and on what a pattern caught. Assumes nothing.
-use Prim.Native.Nat.{ℕ, zero, suc, _+_, _-_, _≤_, _<_}
+use Prim.Native.Nat.{ℕ, zero, suc, _+_, _-_, _*_, _≤_, _<_}
 use native.Mathlib.Omega.{arith}
 use mathlib.Core.Path.{_≡_, refl, sym, ap, _∙_}
 use mathlib.Core.Bool.{Bool, true, false}
@@ -7,6 +7,7 @@ use mathlib.Core.List.{List}
 use lib.ListN.{take, drop}
 use Rattle.meaning.specs.Bytes.{Text, bytes, same, present}
 use Rattle.meaning.specs.Match.{capture}
+use Rattle.buffer.specs.Splice.{splice}
 use Rattle.glob.specs.declared.Captured.{Captured}
 use Rattle.glob.specs.declared.Captured.the-variants as captured
 use Rattle.glob.specs.Captures.{captureMeant}
@@ -17,8 +18,8 @@ use Rattle.parse.specs.Places.{partAt, isPresent}
 use Rattle.parse.proofs.Parts.{part-of}
 use Rattle.negatives.specs.declared.Negative.{Negative}
 use Rattle.negatives.specs.declared.Negative.the-variants.{Nothing, Head, Literal, Glob}
-use Rattle.negatives.specs.Negatives.{inPlaceOfStar, negativeMatches, NegativeWithin, negativeFrom}
-use Rattle.negatives.specs.Making.{textNegative, sideNegative, isGlob, besides, negativeOf, PutNegative}
+use Rattle.negatives.specs.Negatives.{negativeNumbers, inPlaceOfStar, negativeMatches, NegativeWithin, negativeFrom}
+use Rattle.negatives.specs.Making.{textNegative, sideNegative, isGlob, besides, negativeOf, negativeFour, PutNegative}
 
 -- ---- what four numbers tell
 
@@ -147,5 +148,8 @@ module _ (s name : Text) (at len star : ℕ) (c : Captured)
 -- ---- what is put into a table
 
 -- the four numbers tell the negative of an arm
+pub four-arm : (before after : List ℕ) (k : ℕ) (n m : Negative) → n ≡ m → after ≡ splice before (negativeNumbers * k) (negativeFour m) → after ≡ splice before (negativeNumbers * k) (negativeFour n)
+four-arm before after k n m e p = rw e p
+
 pub put-arm : (before after : List ℕ) (k : ℕ) (n m : Negative) → n ≡ m → PutNegative before k m after → PutNegative before k n after
 put-arm before after k n m e p = rw e p

@@ -4,7 +4,7 @@ use native.Mathlib.Nat.{eq-or-lt-of-le}
 use native.Mathlib.Numerals.{add-one}
 use native.Mathlib.Omega.{arith}
 use mathlib.Core.Path.{_≡_, refl, sym, ap, _∙_}
-use mathlib.Core.Bool.{Bool, true, false, not}
+use mathlib.Core.Bool.{Bool, true, false, not, cond}
 use mathlib.Core.List.{List, [], _∷_, _++_, map, map-append}
 use mathlib.Core.Logic.{_⊎_, inl, inr}
 use borrow.Author.Tests.{not-true, not-false}
@@ -15,11 +15,12 @@ use Rattle.meaning.specs.Limits.{specCount}
 use Rattle.meaning.specs.Spec.{Spec, isNegative}
 use Rattle.meaning.specs.Listing.{excludes}
 use Rattle.compare.proofs.Sames.{or-false}
+use Rattle.buffer.specs.Splice.{splice}
 use Rattle.parse.specs.declared.types.RefSpec.{RefSpec}
 use Rattle.parse.specs.Places.{modeMeant, SidesWithin, specMeant}
 use Rattle.negatives.specs.declared.Negative.{Negative}
 use Rattle.negatives.specs.Negatives.{negativeNumbers, NegativeWithin, negativeAt, excludedBy, Negatives}
-use Rattle.negatives.specs.Making.{negativeOf, PutNegative, Added}
+use Rattle.negatives.specs.Making.{negativeOf, negativeFour, addedTo, PutNegative, Added}
 use Rattle.negatives.proofs.Forms.{negative-within, negative-excludes, positive-excludes}
 use Rattle.negatives.proofs.Arms.{within-more}
 use Rattle.negatives.proofs.Tables.{excluded-kept}
@@ -31,6 +32,21 @@ pub negative-small : (s : Text) (r : RefSpec) (n : Negative) → n ≡ negativeO
 negative-small s r n e w l h = rw e (within-more (negativeOf s r) (length s) l h (negative-within s r w))
 
 module _ (s : Text) (r : RefSpec) (t : List ℕ) (k : ℕ) (b : Bool) (is : b ≡ isNegative (modeMeant (r .mode))) where
+  -- what stands in the table then
+  pub none-counted : not b ≡ true → k ≡ cond (isNegative (modeMeant (r .mode))) (k + 1) k
+  none-counted n = let f : isNegative (modeMeant (r .mode)) ≡ false = sym is ∙ not-true b n in rw f
+
+  pub none-put : not b ≡ true → t ≡ addedTo s r t k
+  unfolding addedTo
+  none-put n = let f : isNegative (modeMeant (r .mode)) ≡ false = sym is ∙ not-true b n in rw f
+
+  pub one-counted : not b ≡ false → (count : ℕ) → count ≡ k + 1 → count ≡ cond (isNegative (modeMeant (r .mode))) (k + 1) k
+  one-counted n count e = let f : isNegative (modeMeant (r .mode)) ≡ true = sym is ∙ not-false b n in rw f e
+
+  pub one-put : not b ≡ false → (n : Negative) → n ≡ negativeOf s r → (u : List ℕ) → u ≡ splice t (negativeNumbers * k) (negativeFour n) → u ≡ addedTo s r t k
+  unfolding addedTo
+  one-put f n en u p = let g : isNegative (modeMeant (r .mode)) ≡ true = sym is ∙ not-false b f in rw (g, ← en) p
+
   -- one that is not negative adds nothing
   pub added-none : not b ≡ true → Added s (specMeant s r) t k t k
   added-none n = record {

@@ -1,11 +1,13 @@
 -- Four numbers of a table tell a negative; what is stored there, and what stays. Assumes nothing.
 use Prim.Native.Nat.{ℕ, zero, suc, _+_, _*_, _≤_, _<_}
 use native.Mathlib.Omega.{arith}
-use mathlib.Core.Path.{_≡_, refl, _∙_}
-use mathlib.Core.List.{List}
+use mathlib.Core.Path.{_≡_, refl, ap, _∙_}
+use mathlib.Core.List.{List, [], _∷_}
 use lib.ListN.{length, getD, set, length-set}
 use lib.Seq.{getD-set-same, getD-set-other}
 use Rattle.meaning.specs.Bytes.{Text}
+use Rattle.buffer.specs.Splice.{splice}
+use Rattle.buffer.proofs.Splices.{splice-byte, splice-next}
 use Rattle.negatives.specs.declared.Negative.{Negative}
 use Rattle.negatives.specs.Negatives.{negativeNumbers, negativeFrom, negativeAt, excludedBy}
 use Rattle.negatives.specs.Making.{PutNegative}
@@ -40,6 +42,18 @@ module _ (t : List ℕ) (k kind at len star : ℕ) where
 
     pub fourth-room : negativeNumbers * k + 3 < length three
     fourth-room = rw (length-set two (negativeNumbers * k + 2) len, length-set one (negativeNumbers * k + 1) at, length-set t (negativeNumbers * k) kind) (omega arith)
+
+    -- together
+    pub four-stored : four ≡ splice t (negativeNumbers * k) (kind ∷ at ∷ len ∷ star ∷ [])
+    four-stored =
+        let i = negativeNumbers * k in
+        let a : one ≡ splice t i (kind ∷ []) = splice-byte t i kind (omega arith) in
+        let b : two ≡ splice one (i + 1) (at ∷ []) = splice-byte one (i + 1) at second-room in
+        let c : three ≡ splice two (i + 2) (len ∷ []) = splice-byte two (i + 2) len third-room in
+        let d : four ≡ splice three (i + 3) (star ∷ []) = splice-byte three (i + 3) star fourth-room in
+        let b′ : two ≡ splice t i (kind ∷ at ∷ []) = b ∙ ap (λ (l : List ℕ). splice l (i + 1) (at ∷ [])) a ∙ splice-next t i (kind ∷ []) (at ∷ []) (i + 1) (omega arith) refl in
+        let c′ : three ≡ splice t i (kind ∷ at ∷ len ∷ []) = c ∙ ap (λ (l : List ℕ). splice l (i + 2) (len ∷ [])) b′ ∙ splice-next t i (kind ∷ at ∷ []) (len ∷ []) (i + 2) (omega arith) refl in
+        d ∙ ap (λ (l : List ℕ). splice l (i + 3) (star ∷ [])) c′ ∙ splice-next t i (kind ∷ at ∷ len ∷ []) (star ∷ []) (i + 3) (omega arith) refl
 
   stored-size : length four ≡ length t
   stored-size = rw (length-set three (negativeNumbers * k + 3) star, length-set two (negativeNumbers * k + 2) len, length-set one (negativeNumbers * k + 1) at, length-set t (negativeNumbers * k) kind)

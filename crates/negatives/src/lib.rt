@@ -1,13 +1,16 @@
 // The negative specs of a group as flat numbers, and whether one of them matches a name. Port of the negatives in the crate's match_group/mod.rs.
 ghost use mathlib.Core.Path.{_≡_};
-ghost use mathlib.Core.List.{_++_};
+ghost use mathlib.Core.Bool.{cond};
+ghost use mathlib.Core.List.{[], _∷_, _++_};
 ghost use Prim.Native.Nat.{ℕ, _+_, _*_, _<_, _≤_};
 ghost use lib.ListN.{length};
 ghost use Rattle.meaning.specs.Bytes.{same, present};
 ghost use Rattle.meaning.specs.Limits.{specListBytes};
-ghost use Rattle.parse.specs.Places.{partAt, Within, SidesWithin, specMeant};
+ghost use Rattle.meaning.specs.Spec.{isNegative};
+ghost use Rattle.buffer.specs.Splice.{splice};
+ghost use Rattle.parse.specs.Places.{modeMeant, partAt, Within, SidesWithin, specMeant};
 ghost use Rattle.negatives.specs.Negatives.{negativeNumbers, inPlaceOfStar, negativeMatches, NegativeWithin, negativeFrom, negativeAt, excludedBy};
-ghost use Rattle.negatives.specs.Making.{textNegative, sideNegative, isGlob, besides, negativeOf, PutNegative, Added};
+ghost use Rattle.negatives.specs.Making.{textNegative, sideNegative, isGlob, besides, negativeOf, negativeFour, addedTo, PutNegative, Added};
 
 mod pieces;
 
@@ -109,7 +112,7 @@ fn negative_of(specs: &[u8], r: RefSpec) -> Negative
 // Four numbers are put into a table as those of number k; the number after it.
 fn put_numbers(out: &mut [u16], k: usize, kind: usize, at: usize, len: usize, star: usize) -> usize
     requires { ⌜ (negativeNumbers * k + negativeNumbers ≤ length (now out)) × (kind ≤ 3) × (at ≤ specListBytes) × (len ≤ specListBytes) × (star ≤ specListBytes) ⌝ }
-    ensures { λ r. ⌜ (r ≡ k + 1) × PutNegative (now (out .entry)) k (negativeFrom kind at len star) (now (out .exit)) ⌝ }
+    ensures { λ r. ⌜ (r ≡ k + 1) × (now (out .exit) ≡ splice (now (out .entry)) (negativeNumbers * k) (kind ∷ at ∷ len ∷ star ∷ [])) × PutNegative (now (out .entry)) k (negativeFrom kind at len star) (now (out .exit)) ⌝ }
 {
     let i = NEGATIVE_NUMBERS * k;
     out[i] = kind as u16;
@@ -122,7 +125,7 @@ fn put_numbers(out: &mut [u16], k: usize, kind: usize, at: usize, len: usize, st
 // A negative is put into a table as number k; the number after it.
 fn put_negative(out: &mut [u16], k: usize, n: Negative) -> usize
     requires { ⌜ (negativeNumbers * k + negativeNumbers ≤ length (now out)) × NegativeWithin specListBytes n ⌝ }
-    ensures { λ r. ⌜ (r ≡ k + 1) × PutNegative (now (out .entry)) k n (now (out .exit)) ⌝ }
+    ensures { λ r. ⌜ (r ≡ k + 1) × (now (out .exit) ≡ splice (now (out .entry)) (negativeNumbers * k) (negativeFour n)) × PutNegative (now (out .entry)) k n (now (out .exit)) ⌝ }
 {
     match n {
         Negative::Nothing => put_numbers(out, k, 0, 0, 0, 0),
@@ -135,7 +138,8 @@ fn put_negative(out: &mut [u16], k: usize, n: Negative) -> usize
 // A spec is added to the first k negatives of a table, if it is one; how many they are then.
 pub fn put_if_negative(specs: &[u8], r: RefSpec, k: usize, out: &mut [u16]) -> usize
     requires { ⌜ SidesWithin (length (now specs)) r × (length (now specs) ≤ specListBytes) × (negativeNumbers * k + negativeNumbers ≤ length (now out)) ⌝ }
-    ensures { λ n. ⌜ Added (now (specs .entry)) (specMeant (now (specs .entry)) r) (now (out .entry)) k (now (out .exit)) n ⌝ }
+    ensures { λ n. ⌜ (n ≡ cond (isNegative (modeMeant (r .mode))) (k + 1) k) × (now (out .exit) ≡ addedTo (now (specs .entry)) r (now (out .entry)) k)
+        × Added (now (specs .entry)) (specMeant (now (specs .entry)) r) (now (out .entry)) k (now (out .exit)) n ⌝ }
 {
     let m = r.mode;
     if !is_negative(m) {

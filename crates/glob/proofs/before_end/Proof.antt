@@ -1,5 +1,5 @@
 -- `glob::before_end` meets its contract: the end stands last in what is left, and the capture is what stands before it.
-use Rattle.glob.proofs.Ends.{end-none, end-within, end-part, end-part-within}
+use Rattle.glob.proofs.Ends.{end-off, end-at, end-none, end-within, end-part, end-part-within}
 use borrow.Author.Needs.{needs}
 use borrow.Author.Needs.{needs}
 use Rattle.glob.proofs.before_end.Statement.{statement}
@@ -19,7 +19,7 @@ ends-requires : tie.Need-ends-requires
 ends-requires c κs = search needs
 
 returns : tie.Need-returns
-returns c = (search end-none, tt)
+returns c = (search end-off, search end-none, tt)
 
 sub-rest : tie.Need-sub-rest
 sub-rest c = search needs
@@ -28,7 +28,7 @@ sub-len : tie.Need-sub-len
 sub-len c = search end-within
 
 returns-2 : tie.Need-returns-2
-returns-2 c = (search end-part, search end-part-within)
+returns-2 c = (search end-at, search end-part, search end-part-within)
 
 pub before-end-spec : {M : Type 1} → statement M
 before-end-spec =

@@ -1,5 +1,5 @@
 -- `glob::capture` meets its contract: after the start, the end decides.
-use Rattle.glob.proofs.Ends.{begins-short, start-none, start-after}
+use Rattle.glob.proofs.Ends.{begins-short, start-off, start-at, start-none, start-after}
 use borrow.Author.Needs.{needs}
 use borrow.Author.Needs.{needs}
 use Rattle.glob.proofs.capture.Statement.{statement}
@@ -11,13 +11,13 @@ begins-requires : tie.Need-begins-requires
 begins-requires c κs = search needs
 
 returns : tie.Need-returns
-returns c = (search start-none, tt)
+returns c = (search start-off, search start-none, tt)
 
 before-end-requires : tie.Need-before-end-requires
 before-end-requires c κs = search begins-short
 
 returns-2 : tie.Need-returns-2
-returns-2 c = (search start-after, search needs)
+returns-2 c = (search start-at, search start-after, search needs)
 
 pub capture-spec : {M : Type 1} → statement M
 capture-spec = tie.close (tie.spec begins-requires returns before-end-requires returns-2)

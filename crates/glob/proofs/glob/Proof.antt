@@ -1,5 +1,5 @@
 -- `glob::glob` meets its contract: the start and the end are the parts of the text beside its star.
-use Rattle.glob.proofs.Ends.{star-taken, star-parts}
+use Rattle.glob.proofs.Ends.{star-taken, star-at, star-parts}
 use borrow.Author.Needs.{needs}
 use borrow.Author.Needs.{needs}
 use Rattle.glob.proofs.glob.Statement.{statement}
@@ -25,7 +25,7 @@ capture-requires : tie.Need-capture-requires
 capture-requires c κs = search needs
 
 returns : tie.Need-returns
-returns c = (search star-parts, search needs)
+returns c = (search star-at, search star-parts, search needs)
 
 pub glob-spec : {M : Type 1} → statement M
 glob-spec =

@@ -14,7 +14,7 @@ target-of-requires : tie.Need-target-of-requires
 target-of-requires c κs = search needs
 
 returns : tie.Need-returns
-returns c = search matcher-is
+returns c = (search needs, search needs, search matcher-is)
 
 pub matcher-spec : {M : Type 1} → statement M
 matcher-spec =

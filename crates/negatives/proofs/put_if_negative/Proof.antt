@@ -1,5 +1,5 @@
 -- `negatives::put_if_negative` meets its contract: a negative is put after the others, another spec adds nothing.
-use Rattle.negatives.proofs.Filling.{negative-small, added-none, added-one}
+use Rattle.negatives.proofs.Filling.{negative-small, none-counted, none-put, one-counted, one-put, added-none, added-one}
 use borrow.Author.Needs.{needs}
 use borrow.Author.Needs.{needs}
 use Rattle.negatives.proofs.put_if_negative.Statement.{statement}
@@ -12,7 +12,7 @@ is-negative-requires : tie.Need-is-negative-requires
 is-negative-requires c κs = search needs
 
 returns : tie.Need-returns
-returns c = search added-none
+returns c = (search none-counted, search none-put, search added-none)
 
 negative-of-requires : tie.Need-negative-of-requires
 negative-of-requires c κs = search needs
@@ -24,7 +24,7 @@ same-length : tie.Need-same-length
 same-length c = search needs
 
 returns-2 : tie.Need-returns-2
-returns-2 c = search added-one
+returns-2 c = (search one-counted, search one-put, search added-one)
 
 pub put-if-negative-spec : {M : Type 1} → statement M
 put-if-negative-spec =

@@ -1,5 +1,5 @@
 -- `negatives::put_negative` meets its contract: each arm is one kind of negative.
-use Rattle.negatives.proofs.Arms.{literal-start, literal-size, glob-start, glob-size, glob-star, put-arm}
+use Rattle.negatives.proofs.Arms.{literal-start, literal-size, glob-start, glob-size, glob-star, put-arm, four-arm}
 use borrow.Author.Needs.{needs}
 use borrow.Author.Needs.{needs}
 use Rattle.negatives.proofs.put_negative.Statement.{statement}
@@ -34,25 +34,25 @@ same-length : tie.Need-same-length
 same-length c = search needs
 
 returns : tie.Need-returns
-returns c = (search needs, search put-arm)
+returns c = (search needs, search four-arm, search put-arm)
 
 same-length-2 : tie.Need-same-length-2
 same-length-2 c = search needs
 
 returns-2 : tie.Need-returns-2
-returns-2 c = (search needs, search put-arm)
+returns-2 c = (search needs, search four-arm, search put-arm)
 
 same-length-3 : tie.Need-same-length-3
 same-length-3 c = search needs
 
 returns-3 : tie.Need-returns-3
-returns-3 c = (search needs, search put-arm)
+returns-3 c = (search needs, search four-arm, search put-arm)
 
 same-length-4 : tie.Need-same-length-4
 same-length-4 c = search needs
 
 returns-4 : tie.Need-returns-4
-returns-4 c = (search needs, search put-arm)
+returns-4 c = (search needs, search four-arm, search put-arm)
 
 pub put-negative-spec : {M : Type 1} → statement M
 put-negative-spec =

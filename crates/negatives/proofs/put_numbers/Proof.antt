@@ -1,6 +1,6 @@
 -- `negatives::put_numbers` meets its contract: the four numbers stand there, and those before them stay.
 use mathlib.Core.Path.{refl}
-use Rattle.negatives.proofs.Tables.{second-room, third-room, fourth-room, stored}
+use Rattle.negatives.proofs.Tables.{second-room, third-room, fourth-room, four-stored, stored}
 use borrow.Author.Needs.{needs}
 use Rattle.negatives.proofs.put_numbers.Statement.{statement}
 use Rattle.negatives.proofs.put_numbers.Tie as tie
@@ -60,7 +60,7 @@ same-length : tie.Need-same-length
 same-length c = search needs
 
 returns : tie.Need-returns
-returns c = (refl, search stored)
+returns c = (refl, search four-stored, search stored)
 
 pub put-numbers-spec : {M : Type 1} → statement M
 put-numbers-spec =
