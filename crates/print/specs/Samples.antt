@@ -1,14 +1,14 @@
 -- Samples of texts in print and of the way back, computed.
 use mathlib.Core.Path.{_≡_, refl}
 use mathlib.Core.List.{[], _∷_}
-use Rattle.meaning.specs.Bytes.{bytes}
+use Rattle.meaning.specs.Bytes.{bytes, byte}
 use Rattle.meaning.specs.Deliveries.{shownByte, shown}
 use Rattle.print.specs.Unshown.{stands, fault, digitValue, escape, escaped, asItIs, unshown}
 
 -- a text in print, with `ü` in the two bytes that it has as UTF-8, stands for the text again
 pub back :
-    (shown (102 ∷ 195 ∷ 188 ∷ 114 ∷ []) ≡ bytes "=f%C3%BCr")
-    × (unshown (bytes "=f%C3%BCr") ≡ stands (102 ∷ 195 ∷ 188 ∷ 114 ∷ []))
+    (shown (byte "f" ∷ 195 ∷ 188 ∷ byte "r" ∷ []) ≡ bytes "=f%C3%BCr")
+    × (unshown (bytes "=f%C3%BCr") ≡ stands (byte "f" ∷ 195 ∷ 188 ∷ byte "r" ∷ []))
     × (unshown (bytes "=100%25%20=") ≡ stands (bytes "100% ="))
     × (unshown (bytes "=") ≡ stands [])
 unfolding shownByte shown digitValue escape escaped asItIs

@@ -4,7 +4,7 @@ use mathlib.Core.Path.{_≡_}
 use mathlib.Core.Bool.{Bool, true, cond}
 use mathlib.Core.List.{[], _∷_}
 use lib.Dec.{eqb, leb, ltb}
-use Rattle.meaning.specs.Bytes.{Text, _and_, every}
+use Rattle.meaning.specs.Bytes.{Text, byte, percent, equals, _and_, every}
 use Rattle.meaning.specs.Deliveries.{shown}
 use Rattle.promises.specs.Facts.{isByte}
 use Rattle.print.specs.Lines.{printable}
@@ -31,11 +31,11 @@ textOf (fault k) = []
 
 -- the number that a capital hexadecimal digit stands for; 16 where a byte is none
 unfoldable pub digitValue : ℕ → ℕ
-digitValue b = cond (leb 48 b and leb b 57) (b - 48) (cond (leb 65 b and leb b 70) (b - 55) 16)
+digitValue b = cond (leb (byte "0") b and leb b (byte "9")) (b - byte "0") (cond (leb (byte "A") b and leb b (byte "F")) (b - (byte "A" - 10)) 16)
 
 -- `%` and two such digits
 unfoldable pub escape : ℕ → ℕ → ℕ → Bool
-escape x h l = eqb 37 x and ltb (digitValue h) 16 and ltb (digitValue l) 16
+escape x h l = eqb percent x and ltb (digitValue h) 16 and ltb (digitValue l) 16
 
 -- the byte that the two digits stand for, the higher one first
 unfoldable pub escaped : ℕ → ℕ → ℕ
@@ -55,7 +55,7 @@ unshownBytes (x ∷ h ∷ l ∷ s) = cond (escape x h l) (before (escaped h l) 3
 -- a text in print: `=`, and then its bytes
 abbrev pub unshown : Text → Unshown
 unshown [] = fault 0
-unshown (x ∷ s) = cond (eqb 61 x) (after 1 (unshownBytes s)) (fault 0)
+unshown (x ∷ s) = cond (eqb equals x) (after 1 (unshownBytes s)) (fault 0)
 
 -- what is shown stands for itself again
 abbrev pub ShownBack : Type 0

@@ -4,7 +4,7 @@ use mathlib.Core.Bool.{cond}
 use mathlib.Core.List.{List, [], _∷_, _++_}
 use lib.Dec.{eqb, leb, ltb}
 use lib.ListN.{length, getD}
-use Rattle.meaning.specs.Bytes.{Text}
+use Rattle.meaning.specs.Bytes.{Text, percent}
 use Rattle.meaning.specs.Limits.{specListBytes, specCount, itemCount, nameBytes, itemListBytes}
 use Rattle.meaning.specs.Spec.{_else_then_, specRefusal}
 use Rattle.meaning.specs.Number.{textBytes, recordBytes}
@@ -33,7 +33,7 @@ nameReason count size t =
 -- digits, 106 for a byte that no listing prints
 abbrev pub faultReason : Text → ℕ → ℕ
 faultReason u zero = 104
-faultReason u (suc k) = cond (eqb 37 (getD u (suc k) 0)) 105 106
+faultReason u (suc k) = cond (eqb percent (getD u (suc k) 0)) 105 106
 
 -- why a name is refused that is read from what a listing shows; 0: it is not
 abbrev pub unshownReason : ℕ → ℕ → Text → Unshown → ℕ

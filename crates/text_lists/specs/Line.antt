@@ -5,17 +5,13 @@ use mathlib.Core.Bool.{Bool, cond}
 use mathlib.Core.List.{List, [], _∷_}
 use lib.Dec.{eqb}
 use lib.ListN.{length, take, drop}
-use Rattle.meaning.specs.Bytes.{Text, bytes, _and_, _or_, every, begins}
+use Rattle.meaning.specs.Bytes.{Text, bytes, byte, tab, lineFeed, _and_, _or_, every, begins}
 use Rattle.text_lists.specs.declared.line.Line.{Line}
 use Rattle.text_lists.specs.declared.line.Line.the-variants.{Nothing, Fetch, Push, Name, Shown, Marked, Unknown}
 
--- what ends a line
-abbrev pub lineFeed : ℕ
-lineFeed = 10
-
--- what may stand before it, as part of the line's end
+-- what may stand before a line feed, as part of the line's end
 abbrev pub carriageReturn : ℕ
-carriageReturn = 13
+carriageReturn = byte "\r"
 
 -- a byte before the first of some lines
 abbrev pub beforeFirst : ℕ → List Text → List Text
@@ -48,7 +44,7 @@ byteOrderMark = 239 ∷ 187 ∷ 191 ∷ []
 
 -- a space or a tab
 abbrev pub blankByte : ℕ → Bool
-blankByte b = eqb b 32 or eqb b 9
+blankByte b = eqb b (byte " ") or eqb b tab
 
 -- a blank line and one that begins with `#` hold nothing; else the word that a line begins with says what follows it
 unfoldable pub heldIn : Text → Held

@@ -2,10 +2,10 @@
 use mathlib.Core.Path.{_≡_, refl}
 use mathlib.Core.List.{List, [], _∷_, _++_}
 use Prim.Native.Nat.{ℕ}
-use Rattle.meaning.specs.Bytes.{Text, bytes}
+use Rattle.meaning.specs.Bytes.{Text, bytes, byte, lineFeed}
 use Rattle.meaning.specs.Everything.{everything}
 use Rattle.print.specs.Unshown.{digitValue, escape, escaped, asItIs}
-use Rattle.text_lists.specs.Line.{lineFeed, carriageReturn, linesOf, byteOrderMark, heldIn}
+use Rattle.text_lists.specs.Line.{carriageReturn, linesOf, byteOrderMark, heldIn}
 use Rattle.text_lists.specs.Gather.{roomReason, specReason, nameReason, Gathering, gathered}
 
 -- a line with its line feed before the rest of its text
@@ -38,8 +38,8 @@ pub returns :
     (linesOf (bytes "a" thenBoth bytes "b" then []) ≡ bytes "a" ∷ bytes "b" ∷ [])
     × (linesOf ([] thenBoth bytes "a" thenBoth []) ≡ [] ∷ bytes "a" ∷ [])
     × (linesOf ((carriageReturn ∷ []) thenBoth []) ≡ (carriageReturn ∷ []) ∷ [])
-    × (linesOf (97 ∷ carriageReturn ∷ 98 ∷ lineFeed ∷ []) ≡ (97 ∷ carriageReturn ∷ 98 ∷ []) ∷ [])
-    × (linesOf (97 ∷ carriageReturn ∷ []) ≡ (97 ∷ carriageReturn ∷ []) ∷ [])
+    × (linesOf (byte "a" ∷ carriageReturn ∷ byte "b" ∷ lineFeed ∷ []) ≡ (byte "a" ∷ carriageReturn ∷ byte "b" ∷ []) ∷ [])
+    × (linesOf (byte "a" ∷ carriageReturn ∷ []) ≡ (byte "a" ∷ carriageReturn ∷ []) ∷ [])
 returns = (refl, refl, refl, refl, refl)
 
 -- what is gathered: lines count from 1, blank ones and comments with them; the rest of a line is the spec or the name, spaces and all
@@ -56,7 +56,7 @@ gathering = (refl, refl, refl, refl, refl, refl, refl)
 
 -- a name as a listing shows it, and the three faults that it may have
 pub shown-names :
-    (gathered (bytes "shown =f%C3%BCr" then []) ≡ all [] ((102 ∷ 195 ∷ 188 ∷ 114 ∷ []) ∷ []))
+    (gathered (bytes "shown =f%C3%BCr" then []) ≡ all [] ((byte "f" ∷ 195 ∷ 188 ∷ byte "r" ∷ []) ∷ []))
     × (gathered (bytes "shown a") ≡ stop 1 104 (bytes "shown a") [] [])
     × (gathered (bytes "shown -") ≡ stop 1 104 (bytes "shown -") [] [])
     × (gathered (bytes "shown =a%c3") ≡ stop 1 105 (bytes "shown =a%c3") [] [])
