@@ -1,6 +1,6 @@
 //! What gix-refspec answers about a group of specs.
 
-use crate::{operation, refusal};
+use crate::{operation, refusal, validation::mapping};
 use bstr::BStr;
 use gix_hash::ObjectId;
 use gix_refspec::{
@@ -8,6 +8,7 @@ use gix_refspec::{
     match_group::{Item, Mapping, SourceRef},
     parse::Operation,
 };
+use std::hash::{DefaultHasher, Hash, Hasher};
 
 /// A row of a listing.
 #[derive(Clone, Debug, PartialEq, Eq)]
@@ -19,6 +20,16 @@ pub struct Row {
     pub object: bool,
     pub source: Vec<u8>,
     pub destination: Option<Vec<u8>>,
+}
+
+impl Row {
+    /// The hash by which the crate tells whether a mapping repeats another, made as its
+    /// private `calculate_hash` makes it.
+    pub fn crate_hash(&self) -> u64 {
+        let mut state = DefaultHasher::new();
+        mapping(self).hash(&mut state);
+        state.finish()
+    }
 }
 
 /// Specs that the crate has read.
@@ -125,6 +136,15 @@ mod tests {
         let back = group.match_rhs(&[b"refs/b/y", b"b", b"refs/b/x"]);
         assert_eq!(back.iter().map(|row| &row.source[..]).collect::<Vec<_>>(), [b"refs/a/y", DIGITS]);
         assert_eq!(group.prefixes(), [b"refs/a/"]);
+    }
+
+    #[test]
+    fn repeats_have_one_hash() {
+        let row = Row { item: None, spec: 0, object: false, source: b"a".to_vec(), destination: None };
+        let hash = row.crate_hash();
+        assert_eq!(Row { item: Some(1), spec: 1, ..row.clone() }.crate_hash(), hash);
+        assert_ne!(Row { source: b"b".to_vec(), ..row.clone() }.crate_hash(), hash);
+        assert_ne!(Row { destination: Some(b"".to_vec()), ..row }.crate_hash(), hash);
     }
 
     #[test]

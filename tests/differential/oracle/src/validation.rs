@@ -63,7 +63,7 @@ impl Group<'_> {
 }
 
 /// A row as the crate has it.
-fn mapping(row: &Row) -> Mapping<'_, '_> {
+pub(crate) fn mapping(row: &Row) -> Mapping<'_, '_> {
     let lhs = if row.object {
         SourceRef::ObjectId(ObjectId::from_hex(&row.source).expect("forty digits"))
     } else {

@@ -256,14 +256,14 @@ pub fn as_the_crate_has_it(row: list::Row) -> oracle::Row {
 }
 
 /// The first rows that differ.
-fn first_difference<R: PartialEq + Shown>(who: &str, expected: &[R], found: &[R]) -> String {
+pub fn first_difference<R: PartialEq + Shown>(who: &str, expected: &[R], found: &[R]) -> String {
     let same = iter::zip(expected, found).take_while(|(one, other)| one == other).count();
     let shown = |row: Option<&R>| row.map_or("none".to_owned(), R::shown);
     format!("row {same}: {who} {}, ours {}", shown(expected.get(same)), shown(found.get(same)))
 }
 
 /// A row as a text.
-trait Shown {
+pub trait Shown {
     fn shown(&self) -> String;
 }
 

@@ -4,6 +4,7 @@ mod compare;
 mod damage;
 mod entries;
 mod full;
+mod hashes;
 mod seen;
 
 pub use compare::{Comparison, as_the_crate_has_it};
@@ -43,7 +44,7 @@ pub struct Lists {
 }
 
 /// Compares `count` grown groups for both operations, good lists and damaged ones, and
-/// full-size groups.
+/// full-size groups; and looks at two rows on which the crate is known to differ.
 pub fn run(comparison: Comparison, sample: Sample, count: u64) -> bool {
     let full = full::lists(sample.seed);
     let damage = Damage::of(damage::pairs());
@@ -59,6 +60,7 @@ pub fn run(comparison: Comparison, sample: Sample, count: u64) -> bool {
         })
         && run.lists("damaged lists", damage.count(), CHUNK, |n| (lists(damage.copy(n)), Again::One(n)))
         && run.lists("full-size groups", full.len() as u64, 1, |n| (full[n as usize].clone(), Again::All))
+        && hashes::run(&run.comparison.entries)
         && (run.seen.everything() || sample.is_part());
     if passed {
         println!("differential: {} comparisons of groups, no difference", run.seen.total());
