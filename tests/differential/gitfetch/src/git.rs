@@ -1,12 +1,13 @@
-//! Two bare repositories, and `git fetch` from one into the other.
+//! Two bare repositories, and `git fetch` and `git push` from one into the other.
 
 use crate::outcome::{Outcome, Text};
 use std::{
+    collections::BTreeMap,
     ffi::OsStr,
     fs,
     io::Write,
     os::unix::ffi::OsStrExt,
-    path::PathBuf,
+    path::{Path, PathBuf},
     process::{Command, Output, Stdio},
     sync::atomic::{AtomicU64, Ordering},
 };
@@ -17,8 +18,11 @@ pub const REFS: usize = 16;
 /// As many commits are beside them, for specs whose source is an object id.
 pub const OBJECTS: usize = 4;
 
-/// A repository with refs, each at a commit of its own, and one to fetch into. They are
-/// removed when they are dropped.
+/// How Git says that it pushes nothing.
+const NOTHING: &[u8] = b"No refs in common and none specified; doing nothing.";
+
+/// A repository with refs, each at a commit of its own, and one to fetch or push into.
+/// They are removed when they are dropped.
 pub struct Repositories {
     folder: PathBuf,
     /// The ids of the refs' commits, in the order of the refs, and then of the objects'.
@@ -110,16 +114,11 @@ impl Repositories {
         let mut git = self.git(&into, &words);
         git.args(specs.iter().map(|spec| OsStr::from_bytes(spec)));
         let output = git.stdin(Stdio::null()).output().expect("git can be run");
-        let listed = self.done(&into, &["for-each-ref", "--format=%(objectname) %(refname)"], b"");
-        let refs: Vec<(&[u8], &[u8])> = lines(&listed).map(|line| (&line[..40], &line[41..])).collect();
-        let delete: Vec<Text> = refs.iter().map(|(_, name)| [b"delete ", *name, b"\n"].concat()).collect();
-        if !delete.is_empty() {
-            self.done(&into, &["update-ref", "--stdin"], &delete.concat());
-        }
+        let refs = self.taken(&into);
         if !output.status.success() {
             return stopped(&output);
         }
-        let written = refs.iter().map(|(id, name)| (name.to_vec(), self.source(id))).collect();
+        let written = refs.iter().map(|(name, id)| (name.clone(), self.source(id))).collect();
         let fetch_head = fs::read(into.join("FETCH_HEAD")).expect("git has written it");
         let fetched = lines(&fetch_head).map(|line| self.source(&line[..40])).collect();
         let left_out = lines(&output.stderr)
@@ -131,6 +130,40 @@ impl Repositories {
         Outcome::Done { fetched, written, left_out }
     }
 
+    /// Pushes into a repository that has the refs `there`, and removes again what is there
+    /// then. With `prune` the refs of the remote go that have no source any more.
+    pub fn push(&self, there: &[Text], specs: &[Text], prune: bool) -> Outcome {
+        let (from, into) = (self.folder.join("from"), self.folder.join("into"));
+        let old = &self.objects()[1];
+        let create: Vec<Text> =
+            there.iter().map(|name| [b"create ", &name[..], b" ", old, b"\n"].concat()).collect();
+        self.done(&into, &["update-ref", "--stdin"], &create.concat());
+        let mut words = vec!["push", "--force", "--no-follow-tags"];
+        words.extend(prune.then_some("--prune"));
+        words.extend(["--", "../into"]);
+        let mut git = self.git(&from, &words);
+        git.args(specs.iter().map(|spec| OsStr::from_bytes(spec)));
+        let output = git.stdin(Stdio::null()).output().expect("git can be run");
+        let mut refs = self.taken(&into);
+        // Git fails where it has nothing to do.
+        if !output.status.success() && !lines(&output.stderr).any(|line| line.starts_with(NOTHING)) {
+            return stopped(&output);
+        }
+        let deleted = there.iter().filter(|name| !refs.contains_key(*name)).cloned().collect();
+        refs.retain(|name, id| id != old || !there.contains(name));
+        let pushed = refs.into_iter().map(|(name, id)| (self.source(&id), Some(name))).collect();
+        Outcome::Pushed { pushed, deleted }
+    }
+
+    /// The refs of a repository with their commits, taken away from it.
+    fn taken(&self, folder: &Path) -> BTreeMap<Text, Text> {
+        let listed = self.done(folder, &["for-each-ref", "--format=%(objectname) %(refname)"], b"");
+        let delete: Vec<Text> =
+            lines(&listed).map(|line| [b"delete ", &line[41..], b"\n"].concat()).collect();
+        self.done(folder, &["update-ref", "--stdin"], &delete.concat());
+        lines(&listed).map(|line| (line[41..].to_vec(), line[..40].to_vec())).collect()
+    }
+
     /// The source that a commit tells: a ref, or the object id itself.
     fn source(&self, id: &[u8]) -> Text {
         let number = self.commits.iter().position(|commit| commit == id).expect("no other commits are there");
@@ -138,7 +171,7 @@ impl Repositories {
     }
 
     /// Git, with nothing of its surroundings.
-    fn git(&self, folder: &std::path::Path, words: &[&str]) -> Command {
+    fn git(&self, folder: &Path, words: &[&str]) -> Command {
         let mut git = Command::new("git");
         git.env_clear()
             .env("PATH", std::env::var_os("PATH").unwrap_or_default())
@@ -151,7 +184,7 @@ impl Repositories {
     }
 
     /// What Git prints, which must succeed.
-    fn done(&self, folder: &std::path::Path, words: &[&str], input: &[u8]) -> Vec<u8> {
+    fn done(&self, folder: &Path, words: &[&str], input: &[u8]) -> Vec<u8> {
         let mut git = self.git(folder, words);
         let mut child = git
             .stdin(Stdio::piped())

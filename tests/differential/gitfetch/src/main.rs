@@ -1,5 +1,6 @@
 //! Fetches with Git itself between local repositories, and holds the refs that it
-//! writes to our forward listing, validated. See ../README.md.
+//! writes to our forward listing, validated. Pushes are among the known differences.
+//! See ../README.md.
 
 mod agree;
 mod differences;

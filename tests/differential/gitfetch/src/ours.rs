@@ -1,4 +1,5 @@
-//! What we say of a fetch: the forward listing, validated.
+//! What we say of a fetch: the forward listing, validated. And of a push: the forward
+//! listing, and of what is pruned the reverse one.
 
 use crate::outcome::{Outcome, Text};
 use std::collections::{BTreeMap, HashSet};
@@ -9,12 +10,9 @@ use vasigmon::{
 
 /// What comes of these specs on these refs.
 pub fn fetch(specs: &[Text], names: &[Text]) -> Outcome {
-    let group = match Group::new(Operation::Fetch, specs) {
+    let group = match read(Operation::Fetch, specs) {
         Ok(group) => group,
-        Err(why) => {
-            let record = why.record.map_or(String::new(), |record| format!("spec {record} "));
-            return Outcome::Refused(format!("refuse {record}with {}", why.refusal.number()));
-        }
+        Err(refused) => return refused,
     };
     let listing = group.match_lhs(&Items::new(names).expect("names are accepted"));
     let (out, fixes) = match group.validated(&listing).expect("a listing is accepted") {
@@ -35,6 +33,33 @@ pub fn fetch(specs: &[Text], names: &[Text]) -> Outcome {
     }
     let left_out = list::fixes(&fixes).map(|fix| fix.name.to_vec()).collect();
     Outcome::Done { fetched, written, left_out }
+}
+
+/// What comes of a push of these refs by these specs, to a remote that has the refs
+/// `there`. With `prune`, a row of the remote's refs whose source is absent is a deletion.
+pub fn push(specs: &[Text], names: &[Text], there: &[Text], prune: bool) -> Outcome {
+    let group = match read(Operation::Push, specs) {
+        Ok(group) => group,
+        Err(refused) => return refused,
+    };
+    let items = |names| Items::new(names).expect("names are accepted");
+    let forward = group.match_lhs(&items(names));
+    let pushed = list::rows(&forward)
+        .map(|row| (row.source.text().to_vec(), row.destination.map(<[u8]>::to_vec)))
+        .collect();
+    let reverse = if prune { group.match_rhs(&items(there)) } else { Vec::new() };
+    let absent = |row: &Row| names.iter().all(|name| name != row.source.text());
+    let deleted =
+        list::rows(&reverse).filter(absent).filter_map(|row| row.destination).map(Text::from).collect();
+    Outcome::Pushed { pushed, deleted }
+}
+
+/// The group of these specs, or what comes of a spec that is refused.
+fn read(operation: Operation, specs: &[Text]) -> Result<Group, Outcome> {
+    Group::new(operation, specs).map_err(|why| {
+        let record = why.record.map_or(String::new(), |record| format!("spec {record} "));
+        Outcome::Refused(format!("refuse {record}with {}", why.refusal.number()))
+    })
 }
 
 /// The rows of a listing in the order of their specs, those of object ids too.

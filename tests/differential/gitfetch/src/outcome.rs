@@ -1,11 +1,14 @@
-//! What comes of a fetch.
+//! What comes of a fetch or a push.
 
-use std::{collections::BTreeMap, fmt};
+use std::{
+    collections::{BTreeMap, BTreeSet},
+    fmt,
+};
 
 /// A name or an object id, or what Git says.
 pub type Text = Vec<u8>;
 
-/// What comes of a fetch, in Git or by us.
+/// What comes of a fetch or a push, in Git or by us.
 #[derive(Clone, Debug, PartialEq, Eq)]
 pub enum Outcome {
     Done {
@@ -15,6 +18,12 @@ pub enum Outcome {
         written: BTreeMap<Text, Text>,
         /// The destinations of rows that went out.
         left_out: Vec<Text>,
+    },
+    Pushed {
+        /// Sources, each with the ref of the remote that it is pushed to, if there is one.
+        pushed: BTreeSet<(Text, Option<Text>)>,
+        /// Refs of the remote that are deleted.
+        deleted: BTreeSet<Text>,
     },
     /// Two sources of one destination, of the first row that is in conflict with one
     /// before it.
@@ -32,9 +41,15 @@ impl fmt::Display for Outcome {
                     format!("write {} from {}", name.escape_ascii(), source.escape_ascii())
                 });
                 let left_out = left_out.iter().map(|name| format!("leave out {}", name.escape_ascii()));
-                let all: Vec<String> = fetched.chain(written).chain(left_out).collect();
-                f.write_str(if all.is_empty() { "nothing" } else { "" })?;
-                f.write_str(&all.join("; "))
+                f.write_str(&joined(fetched.chain(written).chain(left_out)))
+            }
+            Outcome::Pushed { pushed, deleted } => {
+                let pushed = pushed.iter().map(|(source, destination)| match destination {
+                    Some(name) => format!("push {} to {}", source.escape_ascii(), name.escape_ascii()),
+                    None => format!("push {}, no destination", source.escape_ascii()),
+                });
+                let deleted = deleted.iter().map(|name| format!("delete {}", name.escape_ascii()));
+                f.write_str(&joined(pushed.chain(deleted)))
             }
             Outcome::Conflict { sources: [one, other], destination } => write!(
                 f,
@@ -46,4 +61,10 @@ impl fmt::Display for Outcome {
             Outcome::Refused(why) => f.write_str(why),
         }
     }
+}
+
+/// What is done, in one line.
+fn joined(parts: impl Iterator<Item = String>) -> String {
+    let all: Vec<String> = parts.collect();
+    if all.is_empty() { "nothing".to_owned() } else { all.join("; ") }
 }
