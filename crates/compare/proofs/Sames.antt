@@ -44,6 +44,12 @@ same-other-length [] (y ∷ t) n = refl
 same-other-length (x ∷ s) [] n = refl
 same-other-length (x ∷ s) (y ∷ t) n = rw (same-other-length s t (λ e. n (omega arith))) (and-false (eqb x y))
 
+-- every text ends with no bytes
+pub ends-empty : (p s : Text) → length p ≡ 0 → true ≡ ends p s
+ends-empty [] [] h = refl
+ends-empty [] (x ∷ s) h = ends-empty [] s h
+ends-empty (a ∷ p) s h = absurd (omega arith)
+
 module _ (s p : Text) where
   pub same-by-begins : (r : Bool) → length s ≡ length p → r ≡ begins p s → r ≡ same s p
   same-by-begins r h e = e ∙ begins-whole p s h ∙ same-swap p s

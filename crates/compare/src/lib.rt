@@ -98,10 +98,13 @@ pub fn same(s: &[u8], p: &[u8]) -> bool
     begins(p, s)
 }
 
-// s ends with p.
+// s ends with p, which mostly has no bytes: most patterns end with their star.
 pub fn ends(p: &[u8], s: &[u8]) -> bool
     ensures { λ r. ⌜ r ≡ ends (now (p .entry)) (now (s .entry)) ⌝ }
 {
+    if p.len() == 0 {
+        return true;
+    }
     if s.len() < p.len() {
         return false;
     }
