@@ -142,6 +142,13 @@ none-put d at v e = rw (← e) (sym (splice-none d at))
 pub none-end : (at : ℕ) (v : Text) → [] ≡ v → at ≡ at + length v
 none-end at v e = rw (← e) (sym (add-zero at))
 
+-- a part of no bytes is nothing
+pub no-part-put : (d : Text) (at : ℕ) (s : Text) (from n : ℕ) → n ≡ 0 → d ≡ splice d at (partAt s from n)
+no-part-put d at s from n e = rw e (sym (splice-none d at))
+
+pub no-part-end : (at : ℕ) (s : Text) (from n : ℕ) → n ≡ 0 → at ≡ at + length (partAt s from n)
+no-part-end at s from n e = rw e (sym (add-zero at))
+
 -- the second of two texts in lower case has room
 pub lower-second : (d : Text) (at : ℕ) (a b : Text) → at + length (a ++ lower b) ≤ length d → (o : Text) (i : ℕ) → o ≡ splice d at a → i ≡ at + length a → i + length b ≤ length o
 lower-second d at a b h o i eo ei = rw (← lower-length b) (pair-second d at a (lower b) h o i eo ei)

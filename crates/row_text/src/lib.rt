@@ -59,11 +59,14 @@ pub fn row_text_size(specs: &[u8], name: &[u8], made: RowText) -> usize
     }
 }
 
-// Writes the n bytes of s that begin at `from`, and answers the place after them.
+// Writes the n bytes of s that begin at `from`, and answers the place after them. Mostly the end of a pattern has none.
 fn put_part(out: &mut [u8], at: usize, s: &[u8], from: usize, n: usize) -> usize
     requires { ⌜ (from + n ≤ length (now s)) × (at + length (partAt (now s) from n) ≤ length (now out)) ⌝ }
     ensures { λ r. ⌜ (now (out .exit) ≡ splice (now (out .entry)) at (partAt (now (s .entry)) from n)) × (r ≡ at + length (partAt (now (s .entry)) from n)) ⌝ }
 {
+    if n == 0 {
+        return at;
+    }
     let end = from + n;
     buffer::put(out, at, &s[from..end])
 }

@@ -1,9 +1,12 @@
--- The part that is lent is the bytes from the place on. Assumes nothing.
+-- No bytes are nothing to write; else the part that is lent is the bytes from the place on. Assumes nothing.
 use Rattle.parse.proofs.Parts.{part-of}
-use Rattle.row_text.proofs.Writes.{room-as, put-as, end-as}
+use Rattle.row_text.proofs.Writes.{room-as, put-as, end-as, no-part-put, no-part-end}
 use borrow.Author.Needs.{needs}
 use Rattle.row_text.proofs.put_part.Statement.{statement}
 use Rattle.row_text.proofs.put_part.Tie as tie
+
+returns : tie.Need-returns
+returns c = (search no-part-put, search no-part-end)
 
 add-end : tie.Need-add-end
 add-end c = search needs
@@ -23,10 +26,10 @@ put-requires c κs = search (room-as, part-of)
 same-length : tie.Need-same-length
 same-length c = search needs
 
-returns : tie.Need-returns
-returns c = (search (put-as, part-of), search (end-as, part-of))
+returns-2 : tie.Need-returns-2
+returns-2 c = (search (put-as, part-of), search (end-as, part-of))
 
 pub put-part-spec : {M : Type 1} → statement M
 put-part-spec =
     tie.close
-    (tie.spec add-end sub-put part-put-start part-put-end put-requires same-length returns)
+    (tie.spec returns add-end sub-put part-put-start part-put-end put-requires same-length returns-2)
