@@ -1,5 +1,5 @@
 //! Puts the same inputs to the stand-ins of tests/differential and to the real crates, and
-//! compares all that gix-refspec is given by them. See ../../README.md.
+//! compares what the answers of gix-refspec are made of. See ../../README.md.
 
 mod bytes;
 mod ids;
