@@ -1,6 +1,6 @@
 //! What gix-refspec answers about a group of specs.
 
-use crate::{operation, refusal, validation::mapping};
+use crate::{operation, refusal::refusal, validation::mapping};
 use bstr::BStr;
 use gix_hash::ObjectId;
 use gix_refspec::{
@@ -47,7 +47,8 @@ impl<'a> Group<'a> {
     pub fn read(op: u64, texts: impl Iterator<Item = &'a [u8]>) -> Result<Group<'a>, (usize, u64)> {
         let operation = operation(op);
         let parse = |(number, text): (usize, &'a [u8])| {
-            gix_refspec::parse(BStr::new(text), operation).map_err(|error| (number, refusal(text, &error)))
+            gix_refspec::parse(BStr::new(text), operation)
+                .map_err(|error| (number, refusal(op, text, &error)))
         };
         let specs: Vec<RefSpecRef> = texts.enumerate().map(parse).collect::<Result<_, _>>()?;
         let objects = specs.iter().filter_map(|spec| ObjectId::from_hex(spec.source()?).ok());

@@ -3,6 +3,7 @@
 //! compared field by field.
 
 mod groups;
+mod refusal;
 mod validation;
 
 pub use groups::{Group, Row};
@@ -14,6 +15,7 @@ use gix_refspec::{
     instruction::{Fetch, Push},
     parse::Operation,
 };
+use refusal::refusal;
 
 /// A side of a spec: 0 absent, 1 a place in the spec, 2 the supplied `HEAD`.
 #[derive(Clone, Copy, Debug, Default, PartialEq, Eq)]
@@ -47,7 +49,7 @@ pub struct Answer {
 pub fn ask(op: u64, spec: &[u8]) -> Result<Answer, u64> {
     match gix_refspec::parse(BStr::new(spec), operation(op)) {
         Ok(read) => Ok(answer(spec, read)),
-        Err(error) => Err(refusal(spec, &error)),
+        Err(error) => Err(refusal(op, spec, &error)),
     }
 }
 
@@ -109,53 +111,6 @@ fn side(spec: &[u8], text: Option<&BStr>) -> Side {
 fn place(spec: &[u8], address: usize) -> Option<usize> {
     let start = address.checked_sub(spec.as_ptr().addr())?;
     (start < spec.len()).then_some(start)
-}
-
-/// The question whose answer the crate's error is.
-fn refusal(spec: &[u8], error: &gix_error::Error) -> u64 {
-    if let Some(source) = &error.source {
-        let name = source.downcast_ref().expect("names alone have errors of their own");
-        return if of_the_source(spec, name) { 6 } else { 8 };
-    }
-    match error.message.as_str() {
-        "Empty refspecs are invalid" => 2,
-        "Negative refspecs cannot have destinations as they exclude sources" => 3,
-        "Cannot push into an empty destination" => 4,
-        "refspec patterns may only contain a single '*' character" => {
-            let address = error.input_address.expect("this error is about a side");
-            if starts_source(spec, address) { 5 } else { 7 }
-        }
-        "Both sides of a two-sided specification need a pattern, like 'a/*:b/*'" => 9,
-        "Negative specs must not be empty" => 10,
-        "Negative specs must not be object hashes" => 11,
-        other => panic!("the crate has an error that no question answers: {other}"),
-    }
-}
-
-/// Whether a refused name is the source, not the destination. A name without a
-/// star was judged where it stands. A pattern was judged as a copy, with its
-/// star read as the letter a; the source comes first.
-fn of_the_source(spec: &[u8], name: &gix_validate::reference::name::Error) -> bool {
-    if place(spec, name.address).is_some() {
-        return starts_source(spec, name.address);
-    }
-    let source = &spec[sign(spec)..];
-    let source = match source.iter().rposition(|b| *b == b':') {
-        Some(colon) => &source[..colon],
-        None => source,
-    };
-    source.contains(&b'*')
-        && source.iter().map(|b| if *b == b'*' { b'a' } else { *b }).eq(name.name.iter().copied())
-}
-
-/// Whether the text at an address is the spec's source: it follows the sign.
-fn starts_source(spec: &[u8], address: usize) -> bool {
-    place(spec, address) == Some(sign(spec))
-}
-
-/// How many bytes the leading sign takes.
-fn sign(spec: &[u8]) -> usize {
-    usize::from(spec.starts_with(b"+") || spec.starts_with(b"^"))
 }
 
 #[cfg(test)]

@@ -1,7 +1,11 @@
 //! Stands in for the crate `gix-hash`, built with SHA-1 alone: an object id is
 //! forty hexadecimal digits of either case, shown in lower case.
 
-use std::{fmt, ops::Deref};
+use std::{
+    fmt,
+    hash::{Hash, Hasher},
+    ops::Deref,
+};
 
 /// The bytes of an object id.
 const SIZE: usize = 20;
@@ -31,7 +35,7 @@ impl Kind {
 
 /// An object id that is lent.
 #[allow(non_camel_case_types)]
-#[derive(Clone, Copy, Debug, PartialEq, Eq, Hash)]
+#[derive(Clone, Copy, Debug, PartialEq, Eq)]
 pub struct oid([u8; SIZE]);
 
 impl oid {
@@ -41,7 +45,7 @@ impl oid {
 }
 
 /// An object id that is owned.
-#[derive(Clone, Copy, Debug, PartialEq, Eq, Hash)]
+#[derive(Clone, Copy, Debug, PartialEq, Eq)]
 pub struct ObjectId(oid);
 
 /// A text that is no object id.
@@ -89,6 +93,13 @@ impl PartialEq<&oid> for ObjectId {
 impl PartialEq<ObjectId> for &oid {
     fn eq(&self, other: &ObjectId) -> bool {
         **self == other.0
+    }
+}
+
+/// The bytes alone, without their number: so the crate finds the same repeats.
+impl Hash for ObjectId {
+    fn hash<H: Hasher>(&self, state: &mut H) {
+        state.write(&self.0.0);
     }
 }
 

@@ -1,8 +1,7 @@
 //! Stands in for the crate `gix-validate`: whether a name is a well-formed
-//! partial reference name. The crate's own decision is not at hand; this one is
-//! written from the git-check-ref-format manual with --allow-onelevel, one
-//! function for each of the manual's rules, in its order. With the feature `one-pass`
-//! the same is decided in one pass, so that times are not those of ten.
+//! partial reference name. It is written from the git-check-ref-format manual with
+//! --allow-onelevel, one function for each of the manual's rules, in its order. With the
+//! feature `one-pass` the same is decided in one pass, so that times are not those of ten.
 
 mod one_pass;
 
