@@ -1,4 +1,4 @@
--- Answers and their buffers, computed: success, each kind of refusal, 17 in either buffer, a conflict against a pass.
+-- Answers and their buffers, computed: success, each kind of refusal, 17 in either buffer, a conflict against a pass, nothing to write against no bytes.
 use Prim.Native.Nat.{ℕ, suc}
 use native.Mathlib.Omega.{arith}
 use mathlib.Core.Path.{_≡_, refl, sym, ap, _∙_}
@@ -7,7 +7,7 @@ use mathlib.Core.Option.{Option, none, some}
 use lib.Dec.{lit≤}
 use Rattle.meaning.specs.Bytes.{Text, bytes}
 use Rattle.meaning.specs.Spec.{Answer, accepted, refused}
-use Rattle.meaning.specs.Buffers.{Outputs, refuses, short, writes, outcome, Told, Tells, LengthBeside, Meets, MeetsOne, MeetsTwo}
+use Rattle.meaning.specs.Buffers.{Outputs, refuses, short, writes, outcome, Told, Tells, LengthBeside, Meets, MeetsOne, MeetsMaybe, MeetsTwo}
 
 -- what is told, written short
 abbrev told : ℕ → Option ℕ → List (Option ℕ) → ℕ → ℕ → Told
@@ -106,6 +106,57 @@ ones = (
     meets = record { buffers-are = refl; tells = record { refusal-is = refl; record-is = refl; lengths-are = refl; buffer-is = refl; beside-is = refl } };
     refusal-is = refl;
     record-is = refl;
+    size-is = refl;
+  },
+)
+
+-- one buffer that may be left alone, four numbers: written, written without a byte, nothing to write, short, refused
+pub maybes :
+    MeetsMaybe (accepted (some (bytes "ab") ∷ [])) (bytes "xyz") (bytes "abz") 0 0 1 2
+    × MeetsMaybe (accepted (some [] ∷ [])) [] [] 0 0 1 0
+    × MeetsMaybe (accepted (none ∷ [])) (bytes "x") (bytes "x") 0 0 0 0
+    × MeetsMaybe (accepted (some (bytes "ab") ∷ [])) (bytes "x") (bytes "x") 17 0 0 2
+    × MeetsMaybe (refused 8 (some 2)) (bytes "x") (bytes "x") 8 2 0 0
+maybes = (
+  record {
+    told = told 0 none (some 2 ∷ []) 0 0;
+    meets = record { buffers-are = refl; tells = record { refusal-is = refl; record-is = refl; lengths-are = refl; buffer-is = refl; beside-is = refl } };
+    refusal-is = refl;
+    record-is = refl;
+    mark-is = refl;
+    size-is = refl;
+  },
+  record {
+    told = told 0 none (some 0 ∷ []) 0 0;
+    meets = record { buffers-are = refl; tells = record { refusal-is = refl; record-is = refl; lengths-are = refl; buffer-is = refl; beside-is = refl } };
+    refusal-is = refl;
+    record-is = refl;
+    mark-is = refl;
+    size-is = refl;
+  },
+  record {
+    told = told 0 none (none ∷ []) 0 0;
+    meets = record { buffers-are = refl; tells = record { refusal-is = refl; record-is = refl; lengths-are = refl; buffer-is = refl; beside-is = refl } };
+    refusal-is = refl;
+    record-is = refl;
+    mark-is = refl;
+    size-is = refl;
+  },
+  record {
+    told = told 17 none [] 1 2;
+    meets =
+        record { buffers-are = refl; tells = record { refusal-is = refl; record-is = refl; lengths-are = refl; buffer-is = refl; beside-is = record { at-least = lit≤ tt; at-most = lit≤ tt } } };
+    refusal-is = refl;
+    record-is = refl;
+    mark-is = refl;
+    size-is = refl;
+  },
+  record {
+    told = told 8 (some 2) [] 0 0;
+    meets = record { buffers-are = refl; tells = record { refusal-is = refl; record-is = refl; lengths-are = refl; buffer-is = refl; beside-is = refl } };
+    refusal-is = refl;
+    record-is = refl;
+    mark-is = refl;
     size-is = refl;
   },
 )

@@ -137,6 +137,22 @@ pub record MeetsOne (a : Answer Outputs) (entry exit : Text) (refusal recordNumb
   pub record-is : recordNumber ≡ orZero (told .recordNumber)
   pub size-is : size ≡ oneLength (told .lengths) (told .beside)
 
+-- 1 where a part was written, perhaps of no bytes; 0 where the buffer was left alone
+abbrev pub writtenMark : List (Option ℕ) → ℕ
+writtenMark [] = 0
+writtenMark (none ∷ lengths) = 0
+writtenMark (some n ∷ lengths) = 1
+
+-- a call on one buffer that may have nothing to write meets it and tells so in four numbers: the refusal, the record, the mark of something
+-- written, which the length does not tell, and the length
+pub record MeetsMaybe (a : Answer Outputs) (entry exit : Text) (refusal recordNumber mark size : ℕ) : Type 0 where
+  pub told : Told
+  pub meets : Meets a (entry ∷ []) (exit ∷ []) told
+  pub refusal-is : refusal ≡ told .refusal
+  pub record-is : recordNumber ≡ orZero (told .recordNumber)
+  pub mark-is : mark ≡ writtenMark (told .lengths)
+  pub size-is : size ≡ oneLength (told .lengths) (told .beside)
+
 -- 1 where the second buffer was left alone: the first holds conflicts
 abbrev pub conflictMark : List (Option ℕ) → ℕ
 conflictMark (first ∷ none ∷ lengths) = 1

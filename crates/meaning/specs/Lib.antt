@@ -1,4 +1,4 @@
--- The meaning of document 01, on bytes; docs/READING.md teaches the notation. Read from the top: each file rests on those above it. A
+-- The meaning of documents 01 and 02, on bytes; docs/READING.md teaches the notation. Read from the top: each file rests on those above it. A
 -- name in camelCase is a definition, one in kebab-case a fact, also where it is a field of a record.
 pub mod Limits
 pub mod Bytes
@@ -15,8 +15,10 @@ pub mod Listing
 pub mod Validation
 pub mod Entries
 pub mod View
+pub mod Collide
 pub mod Deliveries
 pub mod Everything
 pub mod Table
 pub mod Samples
 pub mod BufferSamples
+pub mod CollideSamples
