@@ -144,7 +144,7 @@ module _ (op : ℕ) (s : Spec) (stars : starsAgree op s ≡ true) where
       go false false e = e
 
 -- a spec with a destination is not negative
-positive-of : (m : Mode) (dst : Option Text) → (isNegative m ≡ true → dst ≡ none) → present dst ≡ true → isNegative m ≡ false
+pub positive-of : (m : Mode) (dst : Option Text) → (isNegative m ≡ true → dst ≡ none) → present dst ≡ true → isNegative m ≡ false
 positive-of m none f d = absurd (false≢true d)
 positive-of m (some x) f d = go (isNegative m) f
   where

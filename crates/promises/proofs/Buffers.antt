@@ -1,4 +1,4 @@
--- How code shows that a call meets its buffers: for one buffer and for two, a law for each outcome. Assumes nothing.
+-- How code shows that a call meets its buffers: for one buffer, for one that may be left alone and for two, a law for each outcome. Assumes nothing.
 use Prim.Native.Nat.{ℕ, _≤_, _<_}
 use native.Mathlib.Omega.{arith}
 use mathlib.Core.Path.{_≡_, refl, ap}
@@ -8,7 +8,7 @@ use borrow.Author.Tests.{le-leb, lt-leb}
 use lib.ListN.{length, drop}
 use Rattle.meaning.specs.Bytes.{Text}
 use Rattle.meaning.specs.Spec.{Answer, accepted, refused}
-use Rattle.meaning.specs.Buffers.{Outputs, Outcome, refuses, short, writes, outcome, buffersAfter, Told, lengthsOf, Tells, LengthBeside, orZero, oneLength, MeetsOne, conflictMark, secondLength, MeetsTwo}
+use Rattle.meaning.specs.Buffers.{Outputs, Outcome, refuses, short, writes, outcome, buffersAfter, Told, lengthsOf, Tells, LengthBeside, orZero, oneLength, MeetsOne, writtenMark, MeetsMaybe, conflictMark, secondLength, MeetsTwo}
 
 -- what is told of an outcome, with the exact length beside 17
 abbrev exactly : Outcome → Told
@@ -41,6 +41,26 @@ meets-short a entry exit b refusal recordNumber size e h x p q z = rw (p, q, z) 
 -- a buffer that is long enough: the bytes over its front, the rest kept, and how many they are
 pub meets-written : (a : Answer Outputs) (entry exit b : Text) (refusal recordNumber size : ℕ) → a ≡ accepted (some b ∷ []) → length b ≤ length entry → exit ≡ b ++ drop (length b) entry → refusal ≡ 0 → recordNumber ≡ 0 → size ≡ length b → MeetsOne a entry exit refusal recordNumber size
 meets-written a entry exit b refusal recordNumber size e h x p q z = rw (p, q, z) (meets-one a entry exit (writes (some b ∷ [])) (rw (e, le-leb (length b) (length entry) h)) (ap (λ (t : Text). t ∷ []) x))
+
+-- one buffer that may be left alone, by the outcome
+meets-maybe : (a : Answer Outputs) (entry exit : Text) (o : Outcome) → outcome a (entry ∷ []) ≡ o → exit ∷ [] ≡ buffersAfter o (entry ∷ []) → MeetsMaybe a entry exit (exactly o .refusal) (orZero (exactly o .recordNumber)) (writtenMark (exactly o .lengths)) (oneLength (exactly o .lengths) (exactly o .beside))
+meets-maybe a entry exit o e b = record { told = exactly o; meets = record { buffers-are = rw e b; tells = rw e (tells-exactly o) }; refusal-is = refl; record-is = refl; mark-is = refl; size-is = refl }
+
+-- a refusal: nothing is written, its number and its record's are answered, no mark and no length
+pub maybe-refused : (a : Answer Outputs) (entry exit : Text) (n : ℕ) (r : Option ℕ) (refusal recordNumber mark size : ℕ) → a ≡ refused n r → exit ≡ entry → refusal ≡ n → recordNumber ≡ orZero r → mark ≡ 0 → size ≡ 0 → MeetsMaybe a entry exit refusal recordNumber mark size
+maybe-refused a entry exit n r refusal recordNumber mark size e x p q m z = rw (p, q, m, z) (meets-maybe a entry exit (refuses n r) (rw e) (ap (λ (t : Text). t ∷ []) x))
+
+-- nothing to write: the buffer is left alone, whatever its length
+pub maybe-none : (a : Answer Outputs) (entry exit : Text) (refusal recordNumber mark size : ℕ) → a ≡ accepted (none ∷ []) → exit ≡ entry → refusal ≡ 0 → recordNumber ≡ 0 → mark ≡ 0 → size ≡ 0 → MeetsMaybe a entry exit refusal recordNumber mark size
+maybe-none a entry exit refusal recordNumber mark size e x p q m z = rw (p, q, m, z) (meets-maybe a entry exit (writes (none ∷ [])) (rw e) (ap (λ (t : Text). t ∷ []) x))
+
+-- a buffer that is too short: 17 and what it needs, and no mark
+pub maybe-short : (a : Answer Outputs) (entry exit b : Text) (refusal recordNumber mark size : ℕ) → a ≡ accepted (some b ∷ []) → length entry < length b → exit ≡ entry → refusal ≡ 17 → recordNumber ≡ 0 → mark ≡ 0 → size ≡ length b → MeetsMaybe a entry exit refusal recordNumber mark size
+maybe-short a entry exit b refusal recordNumber mark size e h x p q m z = rw (p, q, m, z) (meets-maybe a entry exit (short 1 (length b)) (rw (e, lt-leb (length b) (length entry) h)) (ap (λ (t : Text). t ∷ []) x))
+
+-- a buffer that is long enough: the bytes over its front, perhaps none, the rest kept, the mark, and how many they are
+pub maybe-written : (a : Answer Outputs) (entry exit b : Text) (refusal recordNumber mark size : ℕ) → a ≡ accepted (some b ∷ []) → length b ≤ length entry → exit ≡ b ++ drop (length b) entry → refusal ≡ 0 → recordNumber ≡ 0 → mark ≡ 1 → size ≡ length b → MeetsMaybe a entry exit refusal recordNumber mark size
+maybe-written a entry exit b refusal recordNumber mark size e h x p q m z = rw (p, q, m, z) (meets-maybe a entry exit (writes (some b ∷ [])) (rw (e, le-leb (length b) (length entry) h)) (ap (λ (t : Text). t ∷ []) x))
 
 -- two buffers, by the outcome
 meets-two : (a : Answer Outputs) (out fixes outAfter fixesAfter : Text) (o : Outcome) → outcome a (out ∷ fixes ∷ []) ≡ o → outAfter ∷ fixesAfter ∷ [] ≡ buffersAfter o (out ∷ fixes ∷ []) → MeetsTwo a out fixes outAfter fixesAfter (exactly o .refusal) (orZero (exactly o .recordNumber)) (conflictMark (exactly o .lengths)) (oneLength (exactly o .lengths) (exactly o .beside)) (secondLength (exactly o .lengths)) (exactly o .buffer)

@@ -9,7 +9,7 @@ use mathlib.Core.Option.{Option, none, some}
 use lib.Dec.{lit≤, lit<}
 use lib.ListN.{length, drop}
 use lib.Seq.{take-append-seam}
-use Rattle.meaning.specs.Bytes.{Text, bytes, each, In, here, there}
+use Rattle.meaning.specs.Bytes.{Text, bytes, each, here, there}
 use Rattle.meaning.specs.Spec.{Answer, accepted, refused, Normal, Force, Spec}
 use Rattle.meaning.specs.Buffers.{Outputs}
 use Rattle.meaning.specs.Number.{recordBytes}
@@ -21,7 +21,7 @@ use Rattle.meaning.specs.Everything.{everything}
 use Rattle.promises.specs.Terms.{reversible, textFits, OneCall, MetOne, TwoCall, MetTwo, TellsConflicts, TellsPass}
 use Rattle.promises.specs.Variants.{ReadBackOfAnySize, hubRow}
 use Rattle.promises.specs.CallVariants.{ReadThoughRefused, ConflictsToldThoughRefused, ConflictsToldOfKept, ListingsToldOfAnySize, ListingsToldOfBuffer, MapBackToldInConflict, MapBackToldOfAnySpec, MapBackToldThoughRefused, CanonicalToldThoughRefused, CanonicalToldOfAnySource, FalseCallVariants, clash, CallsMet}
-use Rattle.promises.proofs.Laws.{same-eq}
+use Rattle.promises.proofs.Laws.{in-none, same-eq}
 use Rattle.promises.proofs.Buffers.{meets-short, meets-written, meets-two-refused, meets-two-short-first, meets-two-conflicts, meets-two-passes}
 use Rattle.promises.proofs.Fitting.{rows-answered}
 use Rattle.promises.proofs.Variants.{false-variants}
@@ -29,10 +29,6 @@ use Rattle.promises.proofs.Variants.{false-variants}
 -- what is refused is not accepted
 refused-accepted : {A : Type 0} {n : ℕ} {r : Option ℕ} {a : A} → refused n r ≡ accepted a → ⊥
 refused-accepted e = let z : _≡_ {A = ℕ} 0 1 = cc in omega arith
-
--- nothing is in an empty list
-in-none : {A : Type 0} {x : A} → In x [] → ⊥
-in-none m = elim m [ ]
 
 -- calls
 

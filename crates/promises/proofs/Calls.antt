@@ -5,15 +5,14 @@ use mathlib.Core.Path.{_≡_, refl, ap}
 use mathlib.Core.Logic.{_↔_, _⊎_, inl, inr}
 use mathlib.Core.Bool.{Bool, true, false, cond}
 use mathlib.Core.List.{List, [], _∷_, _++_, map}
-use mathlib.Core.Option.{none, some}
+use mathlib.Core.Option.{some}
 use borrow.Author.Tests.{leb-true, leb-false}
 use lib.Dec.{leb}
-use lib.ListN.{length, drop, length-append, length-drop}
-use lib.Seq.{take-append-seam, drop-append-seam}
+use lib.ListN.{length, length-append}
 use Rattle.meaning.specs.Bytes.{Text, keep, each, In, here}
 use Rattle.meaning.specs.Limits.{rowListBytes}
 use Rattle.meaning.specs.Spec.{Answer, accepted, refused, Spec, readSpec}
-use Rattle.meaning.specs.Buffers.{Outputs, short, writes, buffersAfter, Tells, Meets}
+use Rattle.meaning.specs.Buffers.{Outputs}
 use Rattle.meaning.specs.Instruction.{canonicalText}
 use Rattle.meaning.specs.Number.{recordBytes}
 use Rattle.meaning.specs.Lists.{readSpecs, readItems}
@@ -32,86 +31,8 @@ use Rattle.promises.proofs.Canonical.{canonical-texts-change-nothing}
 use Rattle.promises.proofs.Fitting.{rows-answered}
 use Rattle.promises.specs.Facts.{EachRead}
 use Rattle.promises.proofs.Texts.{specs-texts}
+use Rattle.promises.proofs.Leaving.{one-leaves, two-conflicts, two-passes}
 use Rattle.promises.proofs.Refusals.{Above, and-accepted, to-bstring-above, match-lhs-above, match-rhs-above, validated-above}
-
--- what a call that tells no refusal leaves
-
--- bytes over the front of a buffer
-over-front : (before after part : Text) (size : ℕ) → length part ≤ length before → after ≡ part ++ drop (length part) before → size ≡ length part → Leaves before after part size
-over-front before after part size h e z =
-    let a = length-append part (drop (length part) before) in
-    let b = length-drop (length part) before in
-    record {
-      front = rw (e, z) (take-append-seam part (drop (length part) before));
-      size-is = z;
-      rest = rw (e, z) (drop-append-seam part (drop (length part) before));
-      same-length = rw e (omega arith);
-    }
-
--- the first of a list of buffers, and the second
-firstIn : List Text → Text
-firstIn [] = []
-firstIn (t ∷ l) = t
-
-secondIn : List Text → Text
-secondIn [] = []
-secondIn (t ∷ l) = firstIn l
-
--- one buffer
-one-leaves : (a : Answer Outputs) (b : Text) (c : OneCall) → a ≡ accepted (some b ∷ []) → MetOne a c → c .refusal ≡ 0 → Leaves (c .before) (c .after) b (c .size)
-unfolding firstIn
-one-leaves a b c e m z =
-    let n : Meets (accepted (some b ∷ [])) (c .before ∷ []) (c .after ∷ []) (m .told) = rw e at (m .meets) in
-    go (leb (length b) (length (c .before))) refl (n .buffers-are) (n .tells)
-  where
-    go : (x : Bool) → leb (length b) (length (c .before)) ≡ x → c .after ∷ [] ≡ buffersAfter (cond x (writes (some b ∷ [])) (short 1 (length b))) (c .before ∷ []) → Tells (cond x (writes (some b ∷ [])) (short 1 (length b))) (m .told) → Leaves (c .before) (c .after) b (c .size)
-    go true x p t = over-front (c .before) (c .after) b (c .size) (leb-true _ _ x) (ap firstIn p) (rw (t .lengths-are) at (m .size-is))
-    go false x p t = absurd (omega (arith, t .refusal-is, m .refusal-is))
-
--- two buffers, the first with conflicts
-record LeavesConflicts (b : Text) (c : TwoCall) : Type 0 where
-  mark-one : c .mark ≡ 1
-  first-left : Leaves (c .out) (c .outAfter) b (c .size)
-  second-alone : c .fixesAfter ≡ c .fixes
-  second-none : c .fixesSize ≡ 0
-
-two-conflicts : (a : Answer Outputs) (b : Text) (c : TwoCall) → a ≡ accepted (some b ∷ none ∷ []) → MetTwo a c → c .refusal ≡ 0 → LeavesConflicts b c
-unfolding firstIn secondIn
-two-conflicts a b c e m z =
-    let n : Meets (accepted (some b ∷ none ∷ [])) (c .out ∷ c .fixes ∷ []) (c .outAfter ∷ c .fixesAfter ∷ []) (m .told) = rw e at (m .meets) in
-    go (leb (length b) (length (c .out))) refl (n .buffers-are) (n .tells)
-  where
-    go : (x : Bool) → leb (length b) (length (c .out)) ≡ x → c .outAfter ∷ c .fixesAfter ∷ [] ≡ buffersAfter (cond x (writes (some b ∷ none ∷ [])) (short 1 (length b))) (c .out ∷ c .fixes ∷ []) → Tells (cond x (writes (some b ∷ none ∷ [])) (short 1 (length b))) (m .told) → LeavesConflicts b c
-    go true x p t =
-        record {
-          mark-one = rw (t .lengths-are) at (m .mark-is);
-          first-left = over-front (c .out) (c .outAfter) b (c .size) (leb-true _ _ x) (ap firstIn p) (rw (t .lengths-are) at (m .size-is));
-          second-alone = ap secondIn p;
-          second-none = rw (t .lengths-are) at (m .fixes-size-is);
-        }
-    go false x p t = absurd (omega (arith, t .refusal-is, m .refusal-is))
-
--- two buffers, with kept rows and fixes
-record LeavesBoth (b f : Text) (c : TwoCall) : Type 0 where
-  mark-none : c .mark ≡ 0
-  first-left : Leaves (c .out) (c .outAfter) b (c .size)
-  second-left : Leaves (c .fixes) (c .fixesAfter) f (c .fixesSize)
-
-two-passes : (a : Answer Outputs) (b f : Text) (c : TwoCall) → a ≡ accepted (some b ∷ some f ∷ []) → MetTwo a c → c .refusal ≡ 0 → LeavesBoth b f c
-unfolding firstIn secondIn
-two-passes a b f c e m z =
-    let n : Meets (accepted (some b ∷ some f ∷ [])) (c .out ∷ c .fixes ∷ []) (c .outAfter ∷ c .fixesAfter ∷ []) (m .told) = rw e at (m .meets) in
-    go (leb (length b) (length (c .out))) (leb (length f) (length (c .fixes))) refl refl (n .buffers-are) (n .tells)
-  where
-    go : (x y : Bool) → leb (length b) (length (c .out)) ≡ x → leb (length f) (length (c .fixes)) ≡ y → c .outAfter ∷ c .fixesAfter ∷ [] ≡ buffersAfter (cond x (cond y (writes (some b ∷ some f ∷ [])) (short 2 (length f))) (short 1 (length b))) (c .out ∷ c .fixes ∷ []) → Tells (cond x (cond y (writes (some b ∷ some f ∷ [])) (short 2 (length f))) (short 1 (length b))) (m .told) → LeavesBoth b f c
-    go true true x y p t =
-        record {
-          mark-none = rw (t .lengths-are) at (m .mark-is);
-          first-left = over-front (c .out) (c .outAfter) b (c .size) (leb-true _ _ x) (ap firstIn p) (rw (t .lengths-are) at (m .size-is));
-          second-left = over-front (c .fixes) (c .fixesAfter) f (c .fixesSize) (leb-true _ _ y) (ap secondIn p) (rw (t .lengths-are) at (m .fixes-size-is));
-        }
-    go true false x y p t = absurd (omega (arith, t .refusal-is, m .refusal-is))
-    go false y x w p t = absurd (omega (arith, t .refusal-is, m .refusal-is))
 
 -- unless refused
 

@@ -1,8 +1,8 @@
--- What stands after a start and before an end, captures, and the form of a text. Assumes nothing.
+-- Starts and ends, what stands after and before them, captures, and the form of a text. Assumes nothing.
 use mathlib.Core.Path.{_≡_, refl, sym, ap, _∙_}
 use mathlib.Core.Logic.{_⊎_, inl, inr}
 use mathlib.Core.Bool.{Bool, true, false, cond, false≢true}
-use mathlib.Core.List.{[], _∷_, _++_}
+use mathlib.Core.List.{[], _∷_, _++_, append-nil}
 use mathlib.Core.Option.{Option, none, some}
 use Prim.Native.Nat.{ℕ, suc, _-_, _≤_}
 use native.Mathlib.Omega.{arith}
@@ -10,12 +10,12 @@ use borrow.Author.Tests.{eq-eqb, eqb-true}
 use lib.Dec.{eqb}
 use lib.ListN.{length, take, drop, length-append}
 use lib.Seq.{take-append-seam, drop-append-seam}
-use Rattle.meaning.specs.Bytes.{Text, same, begins, ends, after, before}
+use Rattle.meaning.specs.Bytes.{Text, _and_, same, begins, ends, after, before}
 use Rattle.meaning.specs.Spec.{starred}
 use Rattle.meaning.specs.Prefix.{beforeStar}
 use Rattle.meaning.specs.Match.{afterStar, literal, pattern, formOf, beforeIn, capture}
 use Rattle.promises.specs.Facts.{CaptureExactly}
-use Rattle.promises.proofs.Laws.{and-left, and-right, or-cases, or-right, same-is, same-refl}
+use Rattle.promises.proofs.Laws.{and-left, and-right, or-cases, or-right, same-is, same-refl, no-bytes}
 
 -- a text that begins with p is p and what follows
 pub begins-is : (p s : Text) → begins p s ≡ true → s ≡ p ++ drop (length p) s
@@ -84,6 +84,51 @@ pub before-append : (p r : Text) → before p (r ++ p) ≡ some r
 before-append p r =
     let n : length (r ++ p) - length p ≡ length r = omega (arith, length-append r p) in
     rw (ends-append p r, n, take-append-seam r p)
+
+-- two starts, two ends
+
+-- of two starts of one text, one begins the other
+pub starts-compare : (a b s t : Text) → a ++ s ≡ b ++ t → (begins a b ≡ true) ⊎ (begins b a ≡ true)
+starts-compare [] b s t e = inl refl
+starts-compare (x ∷ a) [] s t e = inr refl
+starts-compare (x ∷ a) (y ∷ b) s t e = go (starts-compare a b s t (cc))
+  where
+    p : x ≡ y
+    p = cc
+
+    go : (begins a b ≡ true) ⊎ (begins b a ≡ true) → ((eqb x y and begins a b) ≡ true) ⊎ ((eqb y x and begins b a) ≡ true)
+    go (inl q) = inl (rw (eq-eqb x y p, q))
+    go (inr q) = inr (rw (eq-eqb y x (sym p), q))
+
+-- of two ends of one text, one closes the other
+pub ends-compare : (s t a b : Text) → s ++ a ≡ t ++ b → (ends a b ≡ true) ⊎ (ends b a ≡ true)
+ends-compare [] t a b e = inr (rw e (ends-append b t))
+ends-compare (x ∷ s) [] a b e = inl (rw (← e) (ends-append a (x ∷ s)))
+ends-compare (x ∷ s) (y ∷ t) a b e = ends-compare s t a b (cc)
+
+-- a start is no longer than what it begins
+pub begins-shorter : (a b : Text) → begins a b ≡ true → length a ≤ length b
+begins-shorter a b e = omega (arith, ap length (begins-is a b e), length-append a (drop (length a) b))
+
+-- an end is no longer than what it closes
+pub ends-shorter : (a b : Text) → ends a b ≡ true → length a ≤ length b
+ends-shorter a b e = omega (arith, ap length (ends-is a b e), length-append (take (length b - length a) b) a)
+
+-- a start as long as what it begins is all of it
+pub start-whole : (a b : Text) → begins b a ≡ true → length a ≤ length b → a ≡ b
+start-whole a b e h =
+    let u = begins-is b a e in
+    let n = no-bytes (drop (length b) a) (omega (arith, ap length u, length-append b (drop (length b) a))) in
+    u ∙ ap (λ (k : Text). b ++ k) n ∙ append-nil b
+
+-- so is an end
+pub end-whole : (a b : Text) → ends b a ≡ true → length a ≤ length b → a ≡ b
+end-whole a b e h =
+    let u = ends-is b a e in
+    let n = no-bytes (take (length a - length b) a) (omega (arith, ap length u, length-append (take (length a - length b) a) b)) in
+    u ∙ ap (λ (k : Text). k ++ b) n
+
+-- captures
 
 -- a name with a capture is start, capture and end
 pub capture-is : (a b n c : Text) → capture a b n ≡ some c → n ≡ a ++ (c ++ b)

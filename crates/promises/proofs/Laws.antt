@@ -1,8 +1,9 @@
 -- Laws of lists and texts. Assumes nothing.
-use mathlib.Core.Path.{_≡_, refl, sym, ap, subst}
+use mathlib.Core.Path.{_≡_, refl, sym, ap, subst, _∙_}
 use mathlib.Core.Bool.{Bool, true, false, cond, true≢false, false≢true}
 use mathlib.Core.List.{List, [], _∷_, _++_, map, append-assoc}
 use mathlib.Core.Logic.{_⊎_, inl, inr}
+use mathlib.Core.Option.{none, some}
 use Prim.Native.Nat.{ℕ, suc, _+_, _≤_, _<_}
 use native.Mathlib.Omega.{arith}
 use borrow.Author.Tests.{eq-eqb, eqb-true}
@@ -10,6 +11,7 @@ use lib.Dec.{eqb}
 use lib.ListN.{length, length-append}
 use Rattle.meaning.specs.Bytes.{Text, _and_, _or_, every, any, keep, each, numberedFrom, same, insert, inOrder, earlier}
 use Rattle.meaning.specs.Bytes.{In, here, there}
+use Rattle.meaning.specs.View.{nth}
 
 -- both hold: the first does
 pub and-left : (a b : Bool) → (a and b) ≡ true → a ≡ true
@@ -40,7 +42,16 @@ pub or-none : (a b : Bool) → (a or b) ≡ false → (a ≡ false) × (b ≡ fa
 or-none true b e = absurd (true≢false e)
 or-none false b e = (refl, e)
 
+-- a test that chose
+pub chosen : {A : Type 0} (b : Bool) (x y : A) → cond b (some x) none ≡ some y → (b ≡ true) × (x ≡ y)
+chosen true x y e = (refl, cc)
+chosen false x y e = absurd (let z : _≡_ {A = ℕ} 0 1 = cc in omega arith)
+
 -- membership
+
+-- nothing is in an empty list
+pub in-none : {A : Type 0} {x : A} → In x [] → ⊥
+in-none h = elim h [ ]
 
 -- a member of the first list is one of both
 pub in-left : {A : Type 0} {x : A} {l : List A} (m : List A) → In x l → In x (l ++ m)
@@ -107,6 +118,21 @@ module _ {A : Type 0} where
   every-in test e (here {l = l}) = and-left _ (every test l) e
   every-in test e (there {s = y} {l = l} h) = every-in test (and-right (test y) (every test l) e) h
 
+  -- the members of two lists pass: so do those of both
+  pub every-append : (test : A → Bool) (l m : List A) → every test l ≡ true → every test m ≡ true → every test (l ++ m) ≡ true
+  every-append test [] m p q = q
+  every-append test (x ∷ l) m p q = and-both (and-left (test x) (every test l) p) (every-append test l m (and-right (test x) (every test l) p) q)
+
+  -- those of both pass: so do those of the first
+  pub every-left : (test : A → Bool) (l m : List A) → every test (l ++ m) ≡ true → every test l ≡ true
+  every-left test [] m p = refl
+  every-left test (x ∷ l) m p = and-both (and-left (test x) (every test (l ++ m)) p) (every-left test l m (and-right (test x) (every test (l ++ m)) p))
+
+  -- and those of the second
+  pub every-right : (test : A → Bool) (l m : List A) → every test (l ++ m) ≡ true → every test m ≡ true
+  every-right test [] m p = p
+  every-right test (x ∷ l) m p = every-right test l m (and-right (test x) (every test (l ++ m)) p)
+
   -- what a member gives is among what all give
   pub in-each : {B : Type 0} (f : A → List B) {x : A} {l : List A} {y : B} → In x l → In y (f x) → In y (each l f)
   in-each f (here {l = l}) g = in-left (each l f) g
@@ -165,6 +191,11 @@ same-is (x ∷ s) (y ∷ t) e =
 pub same-eq : {s t : Text} → s ≡ t → same s t ≡ true
 same-eq {s} {t} e = rw e (same-refl t)
 
+-- a text of length 0 has no byte
+pub no-bytes : (t : Text) → length t ≡ 0 → t ≡ []
+no-bytes [] h = refl
+no-bytes (x ∷ t) h = absurd (omega arith)
+
 -- what was put in its place is there
 pub insert-new : (s : Text) (l : List Text) → In s (insert s l)
 insert-new s [] = here
@@ -200,6 +231,16 @@ pub numbered-in : {A : Type 0} (i : ℕ) (l : List A) {n : ℕ × A} → In n (n
 numbered-in i [] h = elim h [ ]
 numbered-in i (x ∷ l) here = (omega arith, here)
 numbered-in i (x ∷ l) (there h) = let r = numbered-in (suc i) l h in (omega arith, there (r .1))
+
+-- it stands in the list at its number, counted from where the numbers begin
+pub numbered-nth : {A : Type 0} (i : ℕ) (l : List A) {n : ℕ × A} → In n (numberedFrom i l) → (j : ℕ) × (n .0 ≡ i + j) × (nth l j ≡ some (n .1))
+numbered-nth i [] h = elim h [ ]
+numbered-nth i (x ∷ l) here = (0, omega arith, refl)
+numbered-nth i (x ∷ l) (there h) = let r = numbered-nth (suc i) l h in let k = r .1 in (suc (r .0), omega arith, r .2)
+
+-- counted from 0, its number is its place
+pub numbered-place : {A : Type 0} (l : List A) {n : ℕ × A} → In n (numberedFrom 0 l) → nth l (n .0) ≡ some (n .1)
+numbered-place l h = let r = numbered-nth 0 l h in let k = r .1 in ap (nth l) (omega arith) ∙ r .2
 
 -- a member has a number
 pub in-numbered : {A : Type 0} (i : ℕ) {l : List A} {x : A} → In x l → (j : ℕ) × In {A = ℕ × A} (j, x) (numberedFrom i l)

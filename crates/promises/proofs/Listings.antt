@@ -1,5 +1,5 @@
 -- Where the rows of a listing come from, and that they are there. Assumes nothing.
-use mathlib.Core.Path.{_≡_, refl, sym, ap}
+use mathlib.Core.Path.{_≡_, refl, sym, ap, _∙_}
 use mathlib.Core.Bool.{Bool, true, false, cond}
 use mathlib.Core.List.{List, []}
 use mathlib.Core.Option.{Option, none, some, Option·map}
@@ -11,8 +11,9 @@ use Rattle.meaning.specs.Bytes.{Text, bytes, _or_, any, begins, each, numbered,
 use Rattle.meaning.specs.Spec.{Spec, isNegative, starred}
 use Rattle.meaning.specs.Rows.{Row}
 use Rattle.meaning.specs.Match.{formOf, full, object, partial, plainNeedle, formNeedle, needleOf, objectIn, objectBy, objectSource, Mapped, unmapped, mapped, forward, reverse}
-use Rattle.meaning.specs.Listing.{Ends, endsOf, forwardEnds, reverseEnds, nameRow, nameRows, groupRows, excludes, notExcluded}
-use Rattle.promises.proofs.Laws.{in-each, each-in, numbered-in, in-numbered}
+use Rattle.meaning.specs.Listing.{Ends, endsOf, forwardEnds, reverseEnds, nameRow, nameRows, groupRows, objectRow, excludes, notExcluded}
+use Rattle.meaning.specs.View.{nth}
+use Rattle.promises.proofs.Laws.{in-each, each-in, numbered-in, numbered-place, in-numbered}
 use Rattle.promises.proofs.Captures.{form-plain, form-starred}
 
 -- the ends that a row has
@@ -23,6 +24,7 @@ rowEnds r = record { source = r .source; destination = r .destination }
 pub record FromGroup (make : Spec → Text → Option Ends) (group : List Spec) (names : List Text) (r : Row) : Type 0 where
   pub spec : Spec
   pub spec-in : In spec group
+  pub spec-at : nth group (r .spec) ≡ some spec
   pub positive : isNegative (spec .mode) ≡ false
   pub name : Text
   pub name-in : In name names
@@ -56,6 +58,7 @@ from-group make group names r h =
     record {
       spec = x .0 .1;
       spec-in = a .1;
+      spec-at = ap (nth group) (k .2) ∙ numbered-place group (x .1);
       positive = u .0;
       name = y .0 .1;
       name-in = b .1;
@@ -109,6 +112,13 @@ unfolding notExcluded
 free-stays group r k e = rw (k, e)
 
 -- object sources
+
+-- a row of an object: the match as a whole was mapped to its destination, it is of kind 1, and its number is the spec's
+pub object-row : (i : ℕ) (o : Option Text) (m : Mapped) {r : Row} → In r (objectRow i o m) → (id : Text) × (o ≡ some id) × (m ≡ mapped (r .destination)) × (r .kind ≡ 1) × (r .spec ≡ i)
+object-row i none m h = elim h [ ]
+object-row i (some t) unmapped h = elim h [ ]
+object-row i (some t) (mapped dst) here = (t, refl, refl, refl, refl)
+object-row i (some t) (mapped dst) (there h) = elim h [ ]
 
 -- an object source is the source itself, and an object id
 object-in : (negative : Bool) (src t : Text) → objectIn (needleOf negative src) ≡ some t → (src ≡ t) × (objectId t ≡ true)

@@ -15,7 +15,7 @@ use Rattle.meaning.specs.Listing.{Ends, forwardEnds, reverseEnds, groupRows, ob
 use Rattle.meaning.specs.Validation.{Conflict, conflicts, isKept, Fix, passing, passUnless, verdict}
 use Rattle.promises.specs.Terms.{TwoSources, bothWays, reversible, StandsAsSource}
 use Rattle.promises.specs.Demands.{KeptMapBack}
-use Rattle.promises.proofs.Laws.{and-left, and-right, or-cases, in-right, in-append, in-keep, keep-in, every-in, each-in, numbered-in, same-is, same-eq}
+use Rattle.promises.proofs.Laws.{and-left, and-right, or-cases, chosen, in-right, in-append, in-keep, keep-in, every-in, each-in, numbered-in, same-is, same-eq}
 use Rattle.promises.proofs.Captures.{capture-is, capture-fill, form-plain, form-starred}
 use Rattle.promises.proofs.Listings.{rowEnds, FromGroup, from-group, to-group, forward-made, reverse-made, Free, excluded-free, free-stays, no-object}
 use Rattle.promises.proofs.Conflicts.{passes-exactly}
@@ -23,7 +23,7 @@ use Rattle.promises.proofs.Conflicts.{passes-exactly}
 -- one spec, there and back
 
 -- a capture that was mapped to d
-caught-there : (o : Option Text) (d a b : Text) → mapsTo (caughtBy o) (some (pattern a b)) ≡ mapped (some d) → (k : Text) × (o ≡ some k) × (a ++ (k ++ b) ≡ d)
+pub caught-there : (o : Option Text) (d a b : Text) → mapsTo (caughtBy o) (some (pattern a b)) ≡ mapped (some d) → (k : Text) × (o ≡ some k) × (a ++ (k ++ b) ≡ d)
 caught-there none d a b p = absurd (let z : _≡_ {A = ℕ} 0 1 = cc in omega arith)
 caught-there (some k) d a b p = (k, refl, cc)
 
@@ -34,7 +34,7 @@ filled-from a b (some k) n p = (k, refl, cc)
 
 -- two patterns: what maps n to d maps d back to n
 module _ (src dst a b a′ b′ : Text) (f : formOf src ≡ pattern a b) (g : formOf dst ≡ pattern a′ b′) (n d : Text) where
-  pattern-forward : forwardBy false (some src) (some dst) n ≡ mapsTo (caughtBy (capture a b n)) (some (pattern a′ b′))
+  pub pattern-forward : forwardBy false (some src) (some dst) n ≡ mapsTo (caughtBy (capture a b n)) (some (pattern a′ b′))
   unfolding needleOf
   pattern-forward = rw (f, g)
 
@@ -54,11 +54,6 @@ module _ (src dst a b a′ b′ : Text) (f : formOf src ≡ pattern a b) (g : fo
 whole-there : (c : Bool) (d e : Text) → mapsTo (wholeIf c) (some (literal e)) ≡ mapped (some d) → (c ≡ true) × (completed e ≡ d)
 whole-there true d e p = (refl, cc)
 whole-there false d e p = absurd (let z : _≡_ {A = ℕ} 0 1 = cc in omega arith)
-
--- a test that chose
-chosen : (c : Bool) (src n : Text) → cond c (some src) none ≡ some n → (c ≡ true) × (src ≡ n)
-chosen true src n p = (refl, cc)
-chosen false src n p = absurd (let z : _≡_ {A = ℕ} 0 1 = cc in omega arith)
 
 -- two literals that begin `refs/`: what maps n to d maps d back to n
 module _ (src dst : Text) (f : formOf src ≡ literal src) (g : formOf dst ≡ literal dst) (r : begins (bytes "refs/") src ≡ true) (q : begins (bytes "refs/") dst ≡ true) (n d : Text) where
@@ -138,7 +133,7 @@ both-sides src dst n d h = go (starred src) (starred dst) refl refl h
         nothing e = let z : _≡_ {A = ℕ} 0 1 = cc in omega arith
 
 -- without a destination nothing is mapped to d
-one-sided : (m : Hit) (d : Text) → mapsTo m none ≡ mapped (some d) → ⊥
+pub one-sided : (m : Hit) (d : Text) → mapsTo m none ≡ mapped (some d) → ⊥
 one-sided miss d e = let z : _≡_ {A = ℕ} 0 1 = cc in omega arith
 one-sided whole d e = let z : _≡_ {A = ℕ} 0 1 = cc in omega arith
 one-sided (caught c) d e = let z : _≡_ {A = ℕ} 0 1 = cc in omega arith
@@ -187,7 +182,7 @@ object-none i negative (some src) (some dst) {r} e m = let z : In r [] = rw (no-
 -- where a row comes from
 
 -- a spec that maps a free name gives a row of the listing
-to-forward : (group : List Spec) (names : List Text) (s : Spec) (n : Text) (dst : Option Text) → In s group → isNegative (s .mode) ≡ false → In n names → forward s n ≡ mapped dst → Free group n → (r : Row) × In r (forwardRows group names) × (r .source ≡ n) × (r .destination ≡ dst)
+pub to-forward : (group : List Spec) (names : List Text) (s : Spec) (n : Text) (dst : Option Text) → In s group → isNegative (s .mode) ≡ false → In n names → forward s n ≡ mapped dst → Free group n → (r : Row) × In r (forwardRows group names) × (r .source ≡ n) × (r .destination ≡ dst)
 unfolding forwardRows forwardEnds
 to-forward group names s n dst h neg k e free =
     let t = to-group forwardEnds group names s n (record { source = n; destination = dst }) h neg k (rw e) in

@@ -16,19 +16,14 @@ use Rattle.meaning.specs.Number.{groups, numberBytes, textBytes, recordBytes, S
 use Rattle.meaning.specs.Lists.{withFirst, recordThen, recordsFrom, readList, answered, specRecord, itemRecord, readSpecs, readItems}
 use Rattle.meaning.specs.Rows.{Row, destinationBytes, rowBytes, rowListOf, destinationAfter, readDestination, readFront, readRow, rowPasses, rowRecord, readRows}
 use Rattle.promises.specs.Facts.{isByte, EachRead, OneSpelling, ReadRowFits, ReadRowsFit}
-use Rattle.promises.proofs.Laws.{and-left, and-right, or-cases, each-long}
+use Rattle.promises.proofs.Laws.{and-left, and-right, or-cases, every-right, each-long}
 use Rattle.promises.proofs.Reading.{number-long, list-all}
 use Rattle.promises.proofs.ReadBack.{row-length}
 use Rattle.promises.proofs.Members.{need-yes, step-took, answered-took, specs-list}
 
 -- what is left of bytes is bytes
-bytes-left : (p s : Text) → every isByte (p ++ s) ≡ true → every isByte s ≡ true
-bytes-left [] s e = e
-bytes-left (x ∷ p) s e = bytes-left p s (and-right (isByte x) (every isByte (p ++ s)) e)
-
--- as part of an equation
 bytes-after : (all p s : Text) → every isByte all ≡ true → all ≡ p ++ s → every isByte s ≡ true
-bytes-after all p s e q = bytes-left p s (rw q at e)
+bytes-after all p s e q = every-right isByte p s (rw q at e)
 
 -- a group before a number: the digits of both
 group-spelled : (k b m n : ℕ) (s r : Text) → 128 ≤ b → b < 256 → (m ≡ 0 → ⊥) → b - 128 + m * 128 ≡ n → s ≡ groups k m ++ r → b ∷ s ≡ groups (suc k) n ++ r

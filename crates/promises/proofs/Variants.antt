@@ -21,7 +21,7 @@ use Rattle.meaning.specs.Listing.{forwardEnds, nameRow, nameRows, objectRows, e
 use Rattle.meaning.specs.Everything.{everything}
 use Rattle.promises.specs.Terms.{reversible, textFits, noPlus, canonicalList}
 use Rattle.promises.specs.Variants.{ConflictsOfAnySpecs, ConflictsOfAnyRows, ConflictsByBytes, ConflictsByDestination, ConflictsOfKeptRows, ReadBackOfAnySpecs, ReadBackOfAnyNames, ReadBackOfAnySize, ReadBackUnderNone, KeptMapBackWhere, anySpec, oneSided, MapBackInConflict, MapBackOfAnyRow, MapBackOfAnyDestination, MapBackWithoutIt, MapBackToAnyName, CanonicalOfAnySpecs, CanonicalOfAnyLength, CanonicalOfAnyList, CanonicalOfAnySource, CanonicalIsTheSame, FalseVariants, PremisesMet}
-use Rattle.promises.proofs.Laws.{or-right, in-cons, same-eq, each-append}
+use Rattle.promises.proofs.Laws.{or-right, in-none, in-cons, same-eq, each-append}
 use Rattle.promises.proofs.Captures.{capture-fill}
 use Rattle.promises.proofs.Members.{specs-written, specs-long, rows-long}
 use Rattle.promises.proofs.ReadBack.{row-length}
@@ -29,10 +29,6 @@ use Rattle.promises.proofs.ReadBack.{row-length}
 -- what is refused is not accepted
 refused-accepted : {A : Type 0} {n : ℕ} {r : Option ℕ} {a : A} → refused n r ≡ accepted a → ⊥
 refused-accepted e = let z : _≡_ {A = ℕ} 0 1 = cc in omega arith
-
--- nothing is in an empty list
-in-none : {A : Type 0} {x : A} → In x [] → ⊥
-in-none m = elim m [ ]
 
 -- a spec, written short
 abbrev spec : Mode → Text → Option Text → Spec

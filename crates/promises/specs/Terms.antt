@@ -1,5 +1,5 @@
--- The words of demand 3, as document 01 fixes them; then those that speak of calls.
-use Prim.Native.Nat.{ℕ}
+-- The words of demand 3, as document 01 fixes them; then those that speak of calls, document 02's too.
+use Prim.Native.Nat.{ℕ, _<_}
 use mathlib.Core.Path.{_≡_}
 use mathlib.Core.Logic.{_↔_}
 use mathlib.Core.Bool.{Bool, true, false, not}
@@ -10,7 +10,7 @@ use lib.ListN.{length, take, drop}
 use Rattle.meaning.specs.Bytes.{Text, bytes, _and_, _or_, keep, each, begins, present, orEmpty, In}
 use Rattle.meaning.specs.Limits.{specBytes}
 use Rattle.meaning.specs.Spec.{Answer, accepted, Spec, isNegative, starred}
-use Rattle.meaning.specs.Buffers.{Outputs, MeetsOne, MeetsTwo}
+use Rattle.meaning.specs.Buffers.{Outputs, LengthBeside, MeetsOne, MeetsMaybe, MeetsTwo}
 use Rattle.meaning.specs.Instruction.{canonicalText}
 use Rattle.meaning.specs.Number.{recordBytes}
 use Rattle.meaning.specs.Lists.{readSpecs, readItems}
@@ -138,6 +138,43 @@ pub record Leaves (before after part : Text) (size : ℕ) : Type 0 where
   pub size-is : size ≡ length part
   pub rest : drop size after ≡ drop size before
   pub same-length : length after ≡ length before
+
+-- a call that answers in one buffer, or has nothing to write
+pub record MaybeCall : Type 0 where
+  pub before : Text
+  pub after : Text
+  pub refusal : ℕ
+  pub recordNumber : ℕ
+  pub mark : ℕ
+  pub size : ℕ
+
+-- the call meets this answer
+abbrev pub MetMaybe : Answer Outputs → MaybeCall → Type 0
+MetMaybe a c = MeetsMaybe a (c .before) (c .after) (c .refusal) (c .recordNumber) (c .mark) (c .size)
+
+-- it leaves its buffer alone, with this refusal, 0 for none, and this record: no mark, no length
+pub record TellsAlone (n k : ℕ) (c : MaybeCall) : Type 0 where
+  pub refusal-is : c .refusal ≡ n
+  pub record-is : c .recordNumber ≡ k
+  pub unmarked : c .mark ≡ 0
+  pub no-length : c .size ≡ 0
+  pub alone : c .after ≡ c .before
+
+-- it tells these bytes, perhaps none: the mark 1, and the bytes over the front of its buffer
+pub record TellsBytes (part : Text) (c : MaybeCall) : Type 0 where
+  pub refusal-is : c .refusal ≡ 0
+  pub record-is : c .recordNumber ≡ 0
+  pub marked : c .mark ≡ 1
+  pub bytes-left : Leaves (c .before) (c .after) part (c .size)
+
+-- it tells that its buffer is too short for these bytes: 17, no mark, a length for the buffer, and the buffer as before
+pub record TellsShort (part : Text) (c : MaybeCall) : Type 0 where
+  pub too-short : length (c .before) < length part
+  pub refusal-is : c .refusal ≡ 17
+  pub record-is : c .recordNumber ≡ 0
+  pub unmarked : c .mark ≡ 0
+  pub length-beside : LengthBeside (length part) (c .size)
+  pub alone : c .after ≡ c .before
 
 -- a call of validation tells conflicts: the mark 1, the bytes of conflicts whose destinations are exactly those on which two of the
 -- rows put different sources, one at least; and the fix buffer as before
