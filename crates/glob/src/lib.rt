@@ -6,6 +6,8 @@ ghost use Rattle.meaning.specs.Bytes.{before};
 ghost use Rattle.meaning.specs.Match.{capture};
 ghost use Rattle.glob.specs.Captures.{captureMeant, endedAt, capturedAt, CaptureWithin};
 
+pub mod pieces;
+
 // What a name has between a start and an end: nothing, or `len` of its bytes that begin at `from`.
 pub enum Captured {
     None,

@@ -1,9 +1,7 @@
 -- `Forms`: what a negative looks for, by the form of a text, and that it matches what the meaning's spec excludes. `Arms`: a `match` on
 -- a negative. `Tables`: four numbers of a table. `Filling`: the negatives of a group, added one by one. `Asking`: one negative after the other asked.
--- `Joined`: a text that stands in two pieces or three.
 pub mod Forms
 pub mod Arms
 pub mod Tables
 pub mod Filling
 pub mod Asking
-pub mod Joined

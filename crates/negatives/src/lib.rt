@@ -11,16 +11,13 @@ ghost use Rattle.buffer.specs.Splice.{splice};
 ghost use Rattle.parse.specs.Places.{modeMeant, partAt, Within, SidesWithin, specMeant};
 ghost use Rattle.negatives.specs.Negatives.{negativeNumbers, inPlaceOfStar, negativeMatches, NegativeWithin, negativeFrom, negativeAt, excludedBy};
 ghost use Rattle.negatives.specs.Making.{textNegative, sideNegative, isGlob, besides, negativeOf, negativeFour, addedTo, PutNegative, Added};
-
-mod pieces;
-
 use glob::Captured;
+use glob::pieces::pieces_glob;
+use glob::pieces::pieces_same;
 use parse::types::RefSpec;
 use parse::types::Side;
 use parse::types::is_negative;
 use parse::types::is_present;
-use pieces::pieces_glob;
-use pieces::pieces_same;
 use sides::wide;
 
 // How many numbers a negative has in a table.

@@ -3,7 +3,7 @@ use Rattle.negatives.proofs.Arms.{part-glob}
 use borrow.Author.Needs.{needs}
 use Rattle.negatives.proofs.glob_matches_pieces.Statement.{statement}
 use Rattle.negatives.proofs.glob_matches_pieces.Tie as tie
-use Rattle.negatives.proofs.pieces.pieces_glob.Reads as pieces-glob-reads
+use Rattle.glob.proofs.pieces.pieces_glob.Reads as pieces-glob-reads
 
 add-end : tie.Need-add-end
 add-end c = search needs

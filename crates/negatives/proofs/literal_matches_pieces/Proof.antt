@@ -3,7 +3,7 @@ use Rattle.negatives.proofs.Arms.{part-same}
 use borrow.Author.Needs.{needs}
 use Rattle.negatives.proofs.literal_matches_pieces.Statement.{statement}
 use Rattle.negatives.proofs.literal_matches_pieces.Tie as tie
-use Rattle.negatives.proofs.pieces.pieces_same.Reads as pieces-same-reads
+use Rattle.glob.proofs.pieces.pieces_same.Reads as pieces-same-reads
 
 add-end : tie.Need-add-end
 add-end c = search needs

@@ -5,7 +5,7 @@ use Rattle.negatives.proofs.matches_pieces.Statement.{statement}
 use Rattle.negatives.proofs.matches_pieces.Tie as tie
 use Rattle.negatives.proofs.glob_matches_pieces.Reads as glob-matches-pieces-reads
 use Rattle.negatives.proofs.literal_matches_pieces.Reads as literal-matches-pieces-reads
-use Rattle.negatives.proofs.pieces.pieces_same.Reads as pieces-same-reads
+use Rattle.glob.proofs.pieces.pieces_same.Reads as pieces-same-reads
 
 enum-told : tie.Need-enum-told
 enum-told c = search needs

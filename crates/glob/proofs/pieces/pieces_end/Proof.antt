@@ -1,9 +1,9 @@
--- `negatives::pieces::pieces_end` meets its contract: q is within the last piece, or ends with it and what is before ends the others.
-use Rattle.negatives.proofs.Joined.{taken-before, ends-short, ends-not, ends-on}
+-- `glob::pieces::pieces_end` meets its contract: q is within the last piece, or ends with it and what is before ends the others.
+use Rattle.glob.proofs.Joined.{taken-before, ends-short, ends-not, ends-on}
 use borrow.Author.Needs.{needs}
-use Rattle.negatives.proofs.pieces.pieces_end.Statement.{statement}
-use Rattle.negatives.proofs.pieces.pieces_end.Tie as tie
-use Rattle.negatives.proofs.pieces.two_end.Reads as two-end-reads
+use Rattle.glob.proofs.pieces.pieces_end.Statement.{statement}
+use Rattle.glob.proofs.pieces.pieces_end.Tie as tie
+use Rattle.glob.proofs.pieces.two_end.Reads as two-end-reads
 use Rattle.compare.proofs.ends.Reads as ends-reads
 
 ends-requires : tie.Need-ends-requires

@@ -1,9 +1,9 @@
--- `negatives::pieces::pieces_begin` meets its contract: p is within the first piece, or begins with it and what follows begins the others.
-use Rattle.negatives.proofs.Joined.{begins-short, begins-not, begins-on}
+-- `glob::pieces::pieces_begin` meets its contract: p is within the first piece, or begins with it and what follows begins the others.
+use Rattle.glob.proofs.Joined.{begins-short, begins-not, begins-on}
 use borrow.Author.Needs.{needs}
-use Rattle.negatives.proofs.pieces.pieces_begin.Statement.{statement}
-use Rattle.negatives.proofs.pieces.pieces_begin.Tie as tie
-use Rattle.negatives.proofs.pieces.two_begin.Reads as two-begin-reads
+use Rattle.glob.proofs.pieces.pieces_begin.Statement.{statement}
+use Rattle.glob.proofs.pieces.pieces_begin.Tie as tie
+use Rattle.glob.proofs.pieces.two_begin.Reads as two-begin-reads
 use Rattle.compare.proofs.begins.Reads as begins-reads
 
 begins-requires : tie.Need-begins-requires

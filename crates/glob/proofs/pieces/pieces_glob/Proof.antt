@@ -1,12 +1,12 @@
--- `negatives::pieces::pieces_glob` meets its contract: the length, the start and the end decide.
+-- `glob::pieces::pieces_glob` meets its contract: the length, the start and the end decide.
 use Rattle.glob.proofs.Ends.{star-taken}
-use Rattle.negatives.proofs.Joined.{star-short, star-start, star-end}
+use Rattle.glob.proofs.Joined.{star-short, star-start, star-end}
 use borrow.Author.Needs.{needs}
-use Rattle.negatives.proofs.pieces.pieces_glob.Statement.{statement}
-use Rattle.negatives.proofs.pieces.pieces_glob.Tie as tie
-use Rattle.negatives.proofs.pieces.at_most_sum.Reads as at-most-sum-reads
-use Rattle.negatives.proofs.pieces.pieces_begin.Reads as pieces-begin-reads
-use Rattle.negatives.proofs.pieces.pieces_end.Reads as pieces-end-reads
+use Rattle.glob.proofs.pieces.pieces_glob.Statement.{statement}
+use Rattle.glob.proofs.pieces.pieces_glob.Tie as tie
+use Rattle.glob.proofs.pieces.at_most_sum.Reads as at-most-sum-reads
+use Rattle.glob.proofs.pieces.pieces_begin.Reads as pieces-begin-reads
+use Rattle.glob.proofs.pieces.pieces_end.Reads as pieces-end-reads
 
 sub-at-most-sum : tie.Need-sub-at-most-sum
 sub-at-most-sum c = search needs

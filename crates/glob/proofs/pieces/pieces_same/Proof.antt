@@ -1,9 +1,9 @@
--- `negatives::pieces::pieces_same` meets its contract: a text of their length is the three pieces where each stands in it.
-use Rattle.negatives.proofs.Joined.{same-not, second-start, third-start, same-second, same-first, same-third}
+-- `glob::pieces::pieces_same` meets its contract: a text of their length is the three pieces where each stands in it.
+use Rattle.glob.proofs.Joined.{same-not, second-start, third-start, same-second, same-first, same-third}
 use borrow.Author.Needs.{needs}
-use Rattle.negatives.proofs.pieces.pieces_same.Statement.{statement}
-use Rattle.negatives.proofs.pieces.pieces_same.Tie as tie
-use Rattle.negatives.proofs.pieces.is_sum.Reads as is-sum-reads
+use Rattle.glob.proofs.pieces.pieces_same.Statement.{statement}
+use Rattle.glob.proofs.pieces.pieces_same.Tie as tie
+use Rattle.glob.proofs.pieces.is_sum.Reads as is-sum-reads
 use Rattle.compare.proofs.begins.Reads as begins-reads
 
 is-sum-requires : tie.Need-is-sum-requires

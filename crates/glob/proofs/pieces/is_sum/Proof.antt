@@ -1,8 +1,8 @@
--- `negatives::pieces::is_sum` meets its contract: one summand after the other is taken away.
-use Rattle.negatives.proofs.Joined.{sum-below, sum-short, sum-last}
+-- `glob::pieces::is_sum` meets its contract: one summand after the other is taken away.
+use Rattle.glob.proofs.Joined.{sum-below, sum-short, sum-last}
 use borrow.Author.Needs.{needs}
-use Rattle.negatives.proofs.pieces.is_sum.Statement.{statement}
-use Rattle.negatives.proofs.pieces.is_sum.Tie as tie
+use Rattle.glob.proofs.pieces.is_sum.Statement.{statement}
+use Rattle.glob.proofs.pieces.is_sum.Tie as tie
 
 returns : tie.Need-returns
 returns c = search sum-below

@@ -1,8 +1,8 @@
--- `negatives::pieces::at_most_sum` meets its contract: one summand after the other is taken away.
-use Rattle.negatives.proofs.Joined.{at-most-first, at-most-second, at-most-third}
+-- `glob::pieces::at_most_sum` meets its contract: one summand after the other is taken away.
+use Rattle.glob.proofs.Joined.{at-most-first, at-most-second, at-most-third}
 use borrow.Author.Needs.{needs}
-use Rattle.negatives.proofs.pieces.at_most_sum.Statement.{statement}
-use Rattle.negatives.proofs.pieces.at_most_sum.Tie as tie
+use Rattle.glob.proofs.pieces.at_most_sum.Statement.{statement}
+use Rattle.glob.proofs.pieces.at_most_sum.Tie as tie
 
 returns : tie.Need-returns
 returns c = search at-most-first

@@ -86,7 +86,7 @@ fn pieces_end(q: &[u8], a: &[u8], b: &[u8], c: &[u8]) -> bool
 }
 
 // Three pieces are t: its length decides first, and then the second piece, where texts that begin alike differ.
-pub(crate) fn pieces_same(t: &[u8], a: &[u8], b: &[u8], c: &[u8]) -> bool
+pub fn pieces_same(t: &[u8], a: &[u8], b: &[u8], c: &[u8]) -> bool
     ensures { λ r. ⌜ r ≡ same (now (t .entry)) (now (a .entry) ++ (now (b .entry) ++ now (c .entry))) ⌝ }
 {
     if !is_sum(t.len(), a.len(), b.len(), c.len()) {
@@ -104,7 +104,7 @@ pub(crate) fn pieces_same(t: &[u8], a: &[u8], b: &[u8], c: &[u8]) -> bool
 }
 
 // Three pieces match a text t whose star stands at a place: its start and its end do not overlap.
-pub(crate) fn pieces_glob(t: &[u8], star: usize, a: &[u8], b: &[u8], c: &[u8]) -> bool
+pub fn pieces_glob(t: &[u8], star: usize, a: &[u8], b: &[u8], c: &[u8]) -> bool
     requires { ⌜ star < length (now t) ⌝ }
     ensures { λ r. ⌜ r ≡ present (capture (take star (now (t .entry))) (drop (suc star) (now (t .entry))) (now (a .entry) ++ (now (b .entry) ++ now (c .entry)))) ⌝ }
 {

@@ -55,7 +55,7 @@ begins-first [] a b h = refl
 begins-first (x ∷ p) [] b h = absurd (omega arith)
 begins-first (x ∷ p) (y ∷ a) b h = ap (λ (t : Bool). eqb x y and t) (begins-first p a b (omega arith))
 
-and-assoc : (x y z : Bool) → ((x and y) and z) ≡ (x and (y and z))
+pub and-assoc : (x y z : Bool) → ((x and y) and z) ≡ (x and (y and z))
 and-assoc true y z = refl
 and-assoc false y z = refl
 
