@@ -2,9 +2,9 @@
  *
  * A spec is a byte string that names a source and a destination of references. It
  * is read for fetch (operation 0) or for push (operation 1). A call is on one spec,
- * or on a list of specs and a list of names, which are called items. Each call
- * reads what it is lent. No call allocates. There is nothing to keep between two
- * calls, and nothing to release.
+ * on two, or on a list of specs and a list of names, which are called items. Each
+ * call reads what it is lent. No call allocates. There is nothing to keep between
+ * two calls, and nothing to release.
  *
  * Lending bytes. Every pointer is lent for the duration of the call together
  * with a length. A pointer must never be null, not even beside length 0: where
@@ -14,8 +14,9 @@
  * Answers. Each answer is a struct that is returned by value. Its field `refusal`
  * is 0 for a result, else one of the numbers of `enum vasigmon_refusal`. A field
  * without a meaning in an answer is 0. So in a refusal every other field is 0, with
- * two exceptions: with refusal 17, the length and the number of the short buffer;
- * and, where a list is refused, the number of the record that it is refused for.
+ * three exceptions: with refusal 17, the length and the number of the short buffer;
+ * where a list is refused, the number of the record that it is refused for; and
+ * where one of two specs is refused, which of them it is.
  *
  * Places. A side of a spec is answered as a kind (`enum vasigmon_side`) with a
  * start and a length: the bytes spec[start] to spec[start + length - 1] of the
@@ -52,11 +53,13 @@ enum vasigmon_operation {
 };
 
 /* Why a call was refused. A call asks questions in a fixed order, and the first
- * question whose answer is no gives the number. 18 comes before all others. Of one
- * spec, the questions are asked in the order of these numbers. Of a list, 12 comes
- * first. Then each record is asked in turn: a spec 14, then 13, then its own
- * questions; an item 14, then 13, then 15; a row 13, then 16. The spec list is read
- * as a whole before the items or the rows are looked at. 17 comes last. */
+ * question whose answer is no gives the number. 18 comes before all others, in a call
+ * that is told an operation. Of one spec, the questions are asked in the order of
+ * these numbers. Of two specs, all those of the first come before those of the
+ * second. Of a list, 12 comes first. Then each record is asked in turn: a spec 14,
+ * then 13, then its own questions; an item 14, then 13, then 15; a row 13, then 16.
+ * The spec list is read as a whole before the items or the rows are looked at. 17
+ * comes last. */
 enum vasigmon_refusal {
     VASIGMON_ACCEPTED = 0,               /* no refusal: the answer is a result */
     VASIGMON_SPEC_TOO_LONG = 1,          /* the spec is above 4,096 bytes */
@@ -109,7 +112,7 @@ enum vasigmon_instruction_kind {
  * is counted in. On a smaller stack the call may touch the thread's guard page,
  * which ends the program; no call steps over that page. */
 enum vasigmon_stack {
-    VASIGMON_STACK_SPEC = 16384,         /* 16 KB: the five entries on one spec, and vasigmon_source */
+    VASIGMON_STACK_SPEC = 16384,         /* 16 KB: the five entries on one spec, vasigmon_collide, vasigmon_source */
     VASIGMON_STACK_LISTS = 163840,       /* 160 KB: vasigmon_group_prefixes, vasigmon_match_lhs, vasigmon_match_rhs */
     VASIGMON_STACK_1024_ROWS = 65536,    /* 64 KB: vasigmon_validated, with at most 1,024 rows */
     VASIGMON_STACK_16384_ROWS = 262144,  /* 256 KB: vasigmon_validated, with at most 16,384 rows */
@@ -187,6 +190,40 @@ vasigmon_written vasigmon_to_bstring(uint64_t op, const uint8_t *spec, size_t sp
  * may be empty. */
 vasigmon_written vasigmon_expand_prefixes(uint64_t op, const uint8_t *spec, size_t spec_len,
                                           uint8_t *out, size_t out_len);
+
+/* Whether two specs can ever collide, and what the call did with the output buffer it
+ * was lent.
+ *
+ * Where `collides` is 1, `length` bytes of a destination stand at the buffer's start,
+ * and the bytes beyond them are as they were. The destination may have no bytes at
+ * all, so that `length` is 0 there too. Where `collides` is 0 the whole buffer is as it
+ * was. With VASIGMON_BUFFER_TOO_SHORT, which only two specs that collide can give,
+ * `length` is the length of a buffer that is long enough: at least what is needed and
+ * at most twice that. */
+typedef struct vasigmon_collision {
+    uint64_t refusal;
+    uint64_t which;                      /* with a spec's own number, 1 to 11: the refused spec, 1 or 2; else 0 */
+    uint64_t collides;                   /* 1 where some destination is reached from both specs; 0 where none is, and with every refusal */
+    uint64_t length;
+} vasigmon_collision;
+
+/* Answers whether some name under the first spec and some name under the second, which
+ * may be the same name, can be written to one destination, and writes such a
+ * destination. Both specs are read for fetch. The names may be any bytes of any
+ * length, also names that no item list may have, and an object id counts as a name
+ * does. So where the answer is no, vasigmon_match_lhs puts no row of the one and row
+ * of the other on one destination, in no group that holds both specs and whatever the
+ * items. (vasigmon_match_rhs takes a destination without a star as it is spelt, so of
+ * its rows a no says nothing.)
+ *
+ * Two patterns collide if one start begins the other and one end closes the other; the
+ * destination is then the longer start followed by the longer end. A destination
+ * without a star counts as vasigmon_match_lhs writes it (`main` is `refs/heads/main`), and is
+ * itself the destination that is told. A spec that is negative or has no destination
+ * collides with nothing. The answer does not depend on the order of the two. */
+vasigmon_collision vasigmon_collide(const uint8_t *first, size_t first_len,
+                                    const uint8_t *second, size_t second_len,
+                                    uint8_t *out, size_t out_len);
 
 /* Writes the prefixes of the names that a list of specs asks the remote for. Each
  * prefix that vasigmon_expand_prefixes writes for some spec is written exactly

@@ -111,6 +111,45 @@ static void writing(void)
     expect(memcmp(out, list, strlen(list)) == 0, "the list of the six");
 }
 
+/* Whether the report on two specs is this one. */
+static int reports(vasigmon_collision answer, uint64_t refusal, uint64_t which, uint64_t collides, uint64_t length)
+{
+    return answer.refusal == refusal && answer.which == which && answer.collides == collides && answer.length == length;
+}
+
+static void collisions(void)
+{
+    const char *start = "refs/heads/*:refs/ab*", *end = "refs/tags/*:refs/a*bc", *apart = "*:refs/b*";
+    const char *north = "refs/heads/*:refs/carriers/north/*", *pins = "refs/tags/*:refs/carriers/*pin";
+    uint8_t out[64];
+    vasigmon_collision answer;
+
+    memset(out, '#', sizeof out);
+    answer = vasigmon_collide(bytes(start), strlen(start), bytes(end), strlen(end), out, 8);
+    expect(answer.refusal == VASIGMON_BUFFER_TOO_SHORT && answer.which == 0 && answer.collides == 0,
+           "a collision's short buffer");
+    expect(answer.length >= 9 && answer.length <= 18, "a collision's length beside 17");
+    answer = vasigmon_collide(bytes(start), strlen(start), bytes(apart), strlen(apart), out, sizeof out);
+    expect(reports(answer, VASIGMON_ACCEPTED, 0, 0, 0), "two specs that do not collide");
+    answer = vasigmon_collide(bytes("a:@"), 3, bytes("^"), 1, out, sizeof out);
+    expect(reports(answer, VASIGMON_DESTINATION_NAME, 1, 0, 0), "the first spec is refused first");
+    answer = vasigmon_collide(bytes("a"), 1, bytes("^"), 1, out, sizeof out);
+    expect(reports(answer, VASIGMON_NEGATIVE_EMPTY, 2, 0, 0), "the second spec is refused");
+    answer = vasigmon_collide(bytes("*:*"), 3, bytes("*:*"), 3, out, 0);
+    expect(reports(answer, VASIGMON_ACCEPTED, 0, 1, 0), "a destination of no bytes");
+    expect(out[0] == '#' && out[8] == '#', "nothing is written unless there is a destination");
+
+    answer = vasigmon_collide(bytes(start), strlen(start), bytes(end), strlen(end), out, sizeof out);
+    expect(reports(answer, VASIGMON_ACCEPTED, 0, 1, 9), "two specs that collide");
+    expect(memcmp(out, "refs/abbc#", 10) == 0, "the longer start and the longer end, and nothing beyond");
+    answer = vasigmon_collide(bytes("a:b"), 3, bytes("c:refs/heads/b"), 14, out, sizeof out);
+    expect(reports(answer, VASIGMON_ACCEPTED, 0, 1, 12), "a literal collides in its completed form");
+    expect(memcmp(out, "refs/heads/b", 12) == 0, "it is told in that form");
+    answer = vasigmon_collide(bytes(north), strlen(north), bytes(pins), strlen(pins), out, sizeof out);
+    expect(reports(answer, VASIGMON_ACCEPTED, 0, 1, 23), "the example of README.md");
+    expect(memcmp(out, "refs/carriers/north/pin", 23) == 0, "its destination");
+}
+
 /* Whether a call wrote just these bytes to `out`. */
 static int wrote(vasigmon_written written, const uint8_t *out, const char *text, size_t length)
 {
@@ -295,6 +334,7 @@ int main(void)
     instructions();
     prefixes();
     writing();
+    collisions();
     listings();
     group_prefixes();
     list_refusals();

@@ -175,7 +175,7 @@ typedef struct call {
     uint64_t (*make)(const struct call *);
     const char *what;
     uint64_t op;
-    list first, second;                  /* a spec; or specs, then items or rows */
+    list first, second;                  /* a spec; two specs; or specs, then items or rows */
     uint64_t item;                       /* the item number of the source view */
     size_t room;                         /* bytes of each output buffer */
     uint64_t answer;                     /* a refusal, 0 for none, or CONFLICTS */
@@ -212,6 +212,11 @@ static uint64_t to_bstring(const call *c)
 static uint64_t expand_prefixes(const call *c)
 {
     return vasigmon_expand_prefixes(c->op, LENT(c->first), out, c->room).refusal;
+}
+
+static uint64_t collide(const call *c)
+{
+    return vasigmon_collide(LENT(c->first), LENT(c->second), out, c->room).refusal;
 }
 
 static uint64_t group_prefixes(const call *c)
@@ -265,6 +270,12 @@ static void add_spec(const char *what, uint64_t op, list spec, uint64_t refusal)
     add((call){ENTRY(expand_prefixes), what, op, spec, spec, 0, ROOM, refusal, stack, little});
 }
 
+/* Two specs; where they collide there is room for a destination. */
+static void add_pair(const char *what, list first, list second, size_t room, uint64_t refusal)
+{
+    add((call){ENTRY(collide), what, 0, first, second, 0, room, refusal, VASIGMON_STACK_SPEC, 256});
+}
+
 static void add_prefixes(const char *what, list specs, uint64_t refusal, size_t little)
 {
     add((call){ENTRY(group_prefixes), what, 0, specs, specs, 0, ROOM, refusal, VASIGMON_STACK_LISTS, little});
@@ -289,10 +300,11 @@ static void add_rows(const char *what, list specs, list l, uint64_t answer, size
 
 /* Specs of all kinds, the patterns first. With 48 letters a name is as long as that of an item. */
 #define LETTERS "aaaaaaaaaaaaaaaaaaaaaaaaaaaaaaaaaaaaaaaaaaaaaaaa"
+#define DIGITS "0123456789ABCDEF0123456789abcdef01234567"
 static const char *const SPECS[] = {
     "+refs/heads/*:refs/remotes/~/*",
     "refs/remotes/~/*:refs/heads/*",
-    "0123456789abcdef0123456789abcdef01234567:refs/objects/#~",
+    DIGITS ":refs/objects/#~",
     "^refs/heads/0003~*",
     "refs/heads/#" LETTERS ":refs/x/~",
     "refs/y/~:refs/heads/#" LETTERS,
@@ -321,6 +333,13 @@ static void add_all(void)
     add_spec("a push", 1, text("~:refs/heads/a", 4096), 0);
     add_spec("4,097 bytes", 0, text("~", 4097), 1);
     add_spec("operation 2", 2, text("~", 4096), 18);
+
+    add_pair("patterns that collide", text("*:refs/~*", 4096), text("*:*~", 4096), ROOM, 0);
+    add_pair("patterns that do not", text("*:*~", 4096), text("*:*~b", 4096), 0, 0);
+    add_pair("literals that collide", text("a:~", 4096), text("b:~", 4096), ROOM, 0);
+    add_pair("a pattern and an id", text("~*:refs/heads/*", 4096), text("~:" DIGITS, 4096), ROOM, 0);
+    add_pair("a pattern and a literal", text("*:refs/~*", 4096), text("aa:refs/~", 4096), ROOM, 0);
+    add_pair("4,097 bytes second", text("~:a", 4096), text("~:a", 4097), ROOM, 1);
 
     add_prefixes("256 names", names, 0, 65536);
     add_prefixes("16 names in 1,024 bytes", texts(NAMES, 16, 1024), 0, 16384);

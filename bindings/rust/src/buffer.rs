@@ -5,17 +5,28 @@ use crate::{Refusal, raw};
 /// How long the buffer is that a call is first lent.
 pub(crate) const FIRST: usize = 256;
 
-/// What a call writes that only its buffer can keep from it: lends a buffer, and where that is
-/// too short, one of the length that the call asks for.
-pub(crate) fn written(mut call: impl FnMut(&mut [u8]) -> raw::Written) -> Vec<u8> {
+/// What a call answers, and the bytes that it writes: lends a buffer, and where that is too
+/// short, one of the length that the call asks for. An answer has a refusal and a length.
+pub(crate) fn lent<A>(
+    mut call: impl FnMut(&mut [u8]) -> A,
+    numbers: impl Fn(&A) -> (u64, u64),
+) -> (A, Vec<u8>) {
     let mut out = vec![0; FIRST];
     let mut answer = call(&mut out);
-    if answer.refusal == Refusal::BufferTooShort.number() {
-        out.resize(answer.length as usize, 0);
+    let (refusal, length) = numbers(&answer);
+    if refusal == Refusal::BufferTooShort.number() {
+        out.resize(length as usize, 0);
         answer = call(&mut out);
     }
+    let (_, length) = numbers(&answer);
+    out.truncate(length as usize);
+    (answer, out)
+}
+
+/// What a call writes that only its buffer can keep from it.
+pub(crate) fn written(call: impl FnMut(&mut [u8]) -> raw::Written) -> Vec<u8> {
+    let (answer, out) = lent(call, |answer| (answer.refusal, answer.length));
     Refusal::told(answer.refusal).expect("all else that is lent was accepted before");
-    out.truncate(answer.length as usize);
     out
 }
 

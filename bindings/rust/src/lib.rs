@@ -6,6 +6,8 @@
 //!
 //! - [`parse`] reads a spec, a byte string that names a source and a destination of
 //!   references. The [`Spec`] that it answers says what is asked for.
+//! - [`collide`] tells whether two fetch specs can ever write to one destination, whatever
+//!   names there will be.
 //! - A [`Group`] is a list of specs. It maps the names of [`Items`] to where they go
 //!   ([`Group::match_lhs`]) and back to where they come from ([`Group::match_rhs`]), and
 //!   tells whether such a mapping can be used ([`Group::validated`]).
@@ -13,9 +15,10 @@
 //! - [`raw`] has the C entries themselves, on slices, for a caller with buffers of its own.
 //! - [`stack`] states how much stack each call needs. Threads of the default size have it.
 //!
-//! What can be refused is refused when a spec is read, when a group or items are made, or
+//! What can be refused is refused when specs are read, when a group or items are made, or
 //! when rows are validated: with a [`Refusal`], of a list with the number of the record
-//! too ([`ListRefusal`]). All other calls answer.
+//! too ([`ListRefusal`]), of two specs with which of them ([`PairRefusal`]). All other
+//! calls answer.
 //!
 //! # Which branches does a fetch update?
 //!
@@ -48,6 +51,7 @@
 //! ```
 
 mod buffer;
+mod collision;
 mod group;
 pub mod list;
 #[allow(unsafe_code)]
@@ -57,8 +61,9 @@ mod spec;
 pub mod stack;
 mod validation;
 
+pub use collision::collide;
 pub use group::{Group, Items};
-pub use refusal::{ListRefusal, Refusal};
+pub use refusal::{ListRefusal, PairRefusal, Refusal};
 pub use spec::{Instruction, Mode, Spec, parse};
 pub use validation::Validated;
 

@@ -83,6 +83,21 @@ pub struct Written {
     pub length: u64,
 }
 
+/// The answer of [`collide`].
+#[repr(C)]
+#[derive(Clone, Copy, Debug, Default, PartialEq, Eq)]
+pub struct Collision {
+    /// 0, or why the call is refused; nothing is written then.
+    pub refusal: u64,
+    /// The refused spec, 1 the first or 2 the second; 0 where the refusal is of neither.
+    pub which: u64,
+    /// 1 where some destination is reached from both specs, which `out` then begins
+    /// with; 0 where none is, and in every refusal, 17 too: nothing is written then.
+    pub collides: u64,
+    /// The bytes written; beside refusal 17, the length of a buffer that will do.
+    pub length: u64,
+}
+
 /// The answer of [`validated`].
 #[repr(C)]
 #[derive(Clone, Copy, Debug, Default, PartialEq, Eq)]
@@ -120,7 +135,7 @@ pub struct Part {
 }
 
 mod entries {
-    use super::{Instruction, Part, Prefix, Spec, Validation, Written};
+    use super::{Collision, Instruction, Part, Prefix, Spec, Validation, Written};
 
     unsafe extern "C" {
         pub fn vasigmon_parse(op: u64, spec: *const u8, spec_len: usize) -> Spec;
@@ -140,6 +155,14 @@ mod entries {
             out: *mut u8,
             out_len: usize,
         ) -> Written;
+        pub fn vasigmon_collide(
+            first: *const u8,
+            first_len: usize,
+            second: *const u8,
+            second_len: usize,
+            out: *mut u8,
+            out_len: usize,
+        ) -> Collision;
         pub fn vasigmon_group_prefixes(
             op: u64,
             specs: *const u8,
@@ -216,6 +239,21 @@ pub fn expand_prefixes(op: u64, spec: &[u8], out: &mut [u8]) -> Written {
 /// Writes the canonical text of a spec to `out`.
 pub fn to_bstring(op: u64, spec: &[u8], out: &mut [u8]) -> Written {
     unsafe { entries::vasigmon_to_bstring(op, spec.as_ptr(), spec.len(), out.as_mut_ptr(), out.len()) }
+}
+
+/// Answers whether two fetch specs can ever collide, and writes a destination on which
+/// they do to `out`.
+pub fn collide(first: &[u8], second: &[u8], out: &mut [u8]) -> Collision {
+    unsafe {
+        entries::vasigmon_collide(
+            first.as_ptr(),
+            first.len(),
+            second.as_ptr(),
+            second.len(),
+            out.as_mut_ptr(),
+            out.len(),
+        )
+    }
 }
 
 /// Writes the prefixes of all specs of a list to `out`, each once, as a list of

@@ -120,3 +120,35 @@ impl fmt::Display for ListRefusal {
 }
 
 impl std::error::Error for ListRefusal {}
+
+/// Why one of two specs is refused, and which.
+///
+/// ```
+/// use vasigmon::{PairRefusal, Refusal, collide};
+///
+/// let refused = collide(b"main:refs/heads/main", b"a*:b").unwrap_err();
+/// assert_eq!(refused, PairRefusal { refusal: Refusal::OneStarOfTwo, which: 2 });
+/// assert_eq!(refused.to_string(), "spec 2: one side has a star and the other has none");
+/// ```
+#[derive(Clone, Copy, Debug, PartialEq, Eq, Hash)]
+pub struct PairRefusal {
+    /// The first question that was answered by no.
+    pub refusal: Refusal,
+    /// The spec that it was asked of: 1 the first, 2 the second.
+    pub which: usize,
+}
+
+impl PairRefusal {
+    /// The refusal that an answer tells beside a spec, or nothing for 0.
+    pub(crate) fn told(number: u64, which: u64) -> Result<(), PairRefusal> {
+        Refusal::told(number).map_err(|refusal| PairRefusal { refusal, which: which as usize })
+    }
+}
+
+impl fmt::Display for PairRefusal {
+    fn fmt(&self, f: &mut fmt::Formatter<'_>) -> fmt::Result {
+        write!(f, "spec {}: {}", self.which, self.refusal)
+    }
+}
+
+impl std::error::Error for PairRefusal {}

@@ -17,8 +17,9 @@
 //! # Ok::<(), Box<dyn std::error::Error>>(())
 //! ```
 
-/// 16 KB: [`parse`](crate::parse), all that a [`Spec`](crate::Spec) answers, the making of a
-/// [`Group`](crate::Group) and of [`Items`](crate::Items), and [`Group::source`](crate::Group::source).
+/// 16 KB: [`parse`](crate::parse), all that a [`Spec`](crate::Spec) answers,
+/// [`collide`](crate::collide), the making of a [`Group`](crate::Group) and of
+/// [`Items`](crate::Items), and [`Group::source`](crate::Group::source).
 pub const SPEC: usize = 16 * 1024;
 
 /// 160 KB: [`Group::prefixes`](crate::Group::prefixes), [`Group::match_lhs`](crate::Group::match_lhs)

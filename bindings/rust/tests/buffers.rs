@@ -3,7 +3,7 @@
 
 use vasigmon::{
     list,
-    raw::{self, Validation, Written},
+    raw::{self, Collision, Validation, Written},
 };
 
 const FETCH: u64 = 0;
@@ -52,6 +52,34 @@ fn of_one_spec() {
     keeps_the_rules(&|out| raw::expand_prefixes(FETCH, &[b'a'; 40], out), b"");
     let six = ["a", "refs/a", "refs/tags/a", "refs/heads/a", "refs/remotes/a", "refs/remotes/a/HEAD"];
     keeps_the_rules(&|out| raw::expand_prefixes(FETCH, b"a", out), &list::of(six));
+}
+
+/// The report on two specs that collide, whose mark is there where a destination is written.
+fn collision(first: &[u8], second: &[u8], out: &mut [u8]) -> Written {
+    let Collision { refusal, which, collides, length } = raw::collide(first, second, out);
+    assert_eq!((which, collides), (0, u64::from(refusal == 0)));
+    Written { refusal, record: 0, length }
+}
+
+#[test]
+fn of_two_specs_that_collide() {
+    keeps_the_rules(&|out| collision(b"*:*", b"a*:*", out), b"");
+    keeps_the_rules(&|out| collision(b"a:b", b"*:refs/*", out), b"refs/heads/b");
+    keeps_the_rules(&|out| collision(b"a*:refs/ab*", b"*b:refs/a*bc", out), b"refs/abbc");
+    keeps_the_rules(&|out| collision(&[b"a:", &[b'F'; 40][..]].concat(), b"*:*", out), &{
+        [b"refs/heads/".as_slice(), &[b'f'; 40]].concat()
+    });
+}
+
+#[test]
+fn of_two_specs_that_do_not() {
+    for (first, second) in [(b"*:a*".as_slice(), b"*:b*".as_slice()), (b"*:*", b"^a"), (b"a", b"a:b")] {
+        for length in [0, 1, 100] {
+            let mut out = vec![NOISE; length];
+            assert_eq!(raw::collide(first, second, &mut out), Collision::default());
+            assert_eq!(out, vec![NOISE; length]);
+        }
+    }
 }
 
 #[test]

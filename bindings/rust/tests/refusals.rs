@@ -4,7 +4,7 @@ use std::error::Error;
 use vasigmon::{
     Group, Items, ListRefusal,
     Operation::{Fetch, Push},
-    Refusal, list, parse, raw,
+    PairRefusal, Refusal, collide, list, parse, raw,
 };
 
 fn at(refusal: Refusal, record: usize) -> ListRefusal {
@@ -73,6 +73,29 @@ fn refusals_of_one_spec() {
 }
 
 #[test]
+fn refusals_of_one_of_two_specs() {
+    let of = |refusal, which| Err(PairRefusal { refusal, which });
+    let digits = [b"^".as_slice(), &[b'F'; 40]].concat();
+    for (spec, refusal) in [
+        ([b'a'; 4097].as_slice(), Refusal::SpecTooLong),
+        (b"^a:b", Refusal::NegativeColon),
+        (b"a**:b*", Refusal::SourceStars),
+        (b"a..b", Refusal::SourceName),
+        (b"a*:b**", Refusal::DestinationStars),
+        (b"a:@", Refusal::DestinationName),
+        (b"a*:b", Refusal::OneStarOfTwo),
+        (b"^", Refusal::NegativeEmpty),
+        (&digits, Refusal::NegativeObject),
+    ] {
+        assert_eq!(collide(spec, b"a:b"), of(refusal, 1));
+        assert_eq!(collide(b"a:b", spec), of(refusal, 2));
+        assert_eq!(collide(spec, b"^"), of(refusal, 1), "the first is asked first");
+        assert_eq!(collide(b"^a:b", spec), of(Refusal::NegativeColon, 1));
+    }
+    assert_eq!(collide(b"", b"a:"), Ok(None), "what only a push refuses");
+}
+
+#[test]
 fn refusals_of_specs_in_a_group() {
     for (list, refused) in [
         (list::of(["a", "b..c"]), at(Refusal::SourceName, 1)),
@@ -131,4 +154,8 @@ fn every_call_refuses_alike() {
     assert_eq!(told_of_a_list(0, b"\x01a\x03a:@"), [(8, 1); 5]);
     assert_eq!(told_of_a_list(0, b"\x01a\x03a:"), [(13, 1); 5]);
     assert_eq!(told_of_a_list(2, b"\x01a\x03a:@"), [(18, 0); 5]);
+    for (first, second, which) in [(b"a:@", b"^".as_slice(), 1), (b"a:b", b"a:@", 2)] {
+        let refused = raw::Collision { refusal: 8, which, collides: 0, length: 0 };
+        assert_eq!(raw::collide(first, second, &mut []), refused);
+    }
 }

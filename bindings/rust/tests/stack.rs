@@ -8,7 +8,7 @@
 //! harness, whose threads have larger stacks.
 
 use std::{env, os::unix::process::ExitStatusExt, process::Command, thread};
-use vasigmon::{Group, Items, Operation::Fetch, Refusal, Validated, list, parse, stack};
+use vasigmon::{Group, Items, Operation::Fetch, Refusal, Validated, collide, list, parse, stack};
 
 /// The largest number of rows that a test asks for: more than any row list has.
 const ALL: usize = 1 << 20;
@@ -58,6 +58,14 @@ fn one_spec() {
     });
     let refused = on(stack::SPEC, "a refused spec", || parse(Fetch, &[b'a'; 4097]).unwrap_err());
     assert_eq!(refused, Refusal::SpecTooLong);
+}
+
+fn two_specs() {
+    let specs = ["*:refs/~*", "*:*~"].map(|form| text(form, 0, 4096).into_bytes());
+    let found = on(stack::SPEC, "two specs", || collide(&specs[0], &specs[1]).unwrap());
+    assert_eq!(found.map(|destination| destination.len()), Some(2 * 4093));
+    let refused = on(stack::SPEC, "a refused spec of two", || collide(&specs[0], b"^").unwrap_err());
+    assert_eq!((refused.refusal, refused.which), (Refusal::NegativeEmpty, 2));
 }
 
 /// The largest lists.
@@ -135,6 +143,7 @@ fn main() {
     }
     header();
     one_spec();
+    two_specs();
     let (group, items) = lists();
     validation(1024, stack::ROWS_1024);
     listings(&group, &items);

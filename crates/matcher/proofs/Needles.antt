@@ -23,8 +23,8 @@ use Rattle.matcher.specs.declared.types.Lead.{Lead}
 use Rattle.matcher.specs.declared.types.Lead.the-variants as lead
 use Rattle.matcher.specs.declared.types.Target.{Target}
 use Rattle.matcher.specs.declared.types.Target.the-variants as target
-use Rattle.matcher.specs.Matching.{ledText, NeedleWithin, TargetWithin, Matches}
-use Rattle.matcher.specs.Sides.{NeedleStar, TargetStar, NeedleOf, NeedleFor, TargetOf, TargetFor}
+use Rattle.matcher.specs.Matching.{NeedleWithin, TargetWithin, Matches}
+use Rattle.matcher.specs.Sides.{NeedleStar, TargetStar, LeadOf, NeedleOf, NeedleFor, TargetOf, TargetFor}
 
 -- the form of a text by the place of its first star
 module _ (t : Text) (k : ℕ) (ek : k ≡ firstAt star t) where
@@ -114,37 +114,37 @@ module _ (specs : Text) (negative : Bool) (s : Side) where
 
 -- how it is led, by the branches of `lead_of`
 module _ (t : Text) (r : Bool) (er : r ≡ begins (bytes "refs/") t) where
-  pub lead-as-is : r ≡ true → completed t ≡ ledText lead.AsIs t
+  pub lead-as-is : r ≡ true → LeadOf t lead.AsIs
   unfolding completed
-  lead-as-is e = rw (sym er ∙ e)
+  lead-as-is e = record { completes = rw (sym er ∙ e); digits = tt }
 
   module _ (nr : r ≡ false) (o : Bool) (eo : o ≡ objectId t) where
-    pub lead-digits : o ≡ true → completed t ≡ ledText lead.HeadsDigits t
+    pub lead-digits : o ≡ true → LeadOf t lead.HeadsDigits
     unfolding completed
-    lead-digits e = rw (sym er ∙ nr, sym eo ∙ e)
+    lead-digits e = record { completes = rw (sym er ∙ nr, sym eo ∙ e); digits = sym eo ∙ e }
 
     module _ (no : o ≡ false) (a : Bool) (ea : a ≡ begins (bytes "tags/") t) where
-      pub lead-tags : a ≡ true → completed t ≡ ledText lead.Refs t
+      pub lead-tags : a ≡ true → LeadOf t lead.Refs
       unfolding completed
-      lead-tags e = rw (sym er ∙ nr, sym eo ∙ no, sym ea ∙ e)
+      lead-tags e = record { completes = rw (sym er ∙ nr, sym eo ∙ no, sym ea ∙ e); digits = tt }
 
       module _ (na : a ≡ false) (b : Bool) (eb : b ≡ begins (bytes "remotes/") t) where
-        pub lead-remotes : b ≡ true → completed t ≡ ledText lead.Refs t
+        pub lead-remotes : b ≡ true → LeadOf t lead.Refs
         unfolding completed
-        lead-remotes e = rw (sym er ∙ nr, sym eo ∙ no, sym ea ∙ na, sym eb ∙ e)
+        lead-remotes e = record { completes = rw (sym er ∙ nr, sym eo ∙ no, sym ea ∙ na, sym eb ∙ e); digits = tt }
 
-        pub lead-heads : b ≡ false → completed t ≡ ledText lead.Heads t
+        pub lead-heads : b ≡ false → LeadOf t lead.Heads
         unfolding completed
-        lead-heads e = rw (sym er ∙ nr, sym eo ∙ no, sym ea ∙ na, sym eb ∙ e)
+        lead-heads e = record { completes = rw (sym er ∙ nr, sym eo ∙ no, sym ea ∙ na, sym eb ∙ e); digits = tt }
 
 module _ (t : Text) (k : ℕ) (ek : k ≡ firstAt star t) where
   -- with a star
   pub target-star : k < length t → TargetOf t (target.Pattern k)
-  target-star h = record { meant = rw (form-star t k ek h); completes = tt; starred = h }
+  target-star h = record { meant = rw (form-star t k ek h); completes = tt; digits = tt; starred = h }
 
   -- without
-  pub target-literal : k ≤ length t → length t ≤ k → (l : Lead) → completed t ≡ ledText l t → TargetOf t (target.Literal l)
-  target-literal u v l e = record { meant = rw (form-none t k ek u v); completes = e; starred = tt }
+  pub target-literal : k ≤ length t → length t ≤ k → (l : Lead) → LeadOf t l → TargetOf t (target.Literal l)
+  target-literal u v l h = record { meant = rw (form-none t k ek u v); completes = h .completes; digits = h .digits; starred = tt }
 
 -- `&specs[at..at + n]` is the part
 pub target-part : (specs : Text) (at n : ℕ) (r : Target) → TargetOf (take (at + n - at) (drop at specs)) r → TargetOf (partAt specs at n) r
@@ -161,11 +161,11 @@ module _ (specs : Text) (s : Side) where
   pub target-side : (at n : ℕ) (r : Target) → s ≡ side.Part at n → Within (length specs) s → TargetOf (partAt specs at n) r → TargetFor specs s r
   target-side at n r e w h =
       let l : at + n ≤ length specs = rw e at w in
-      rw e (record { meant = h .meant; completes = h .completes; within = target-within at n r (rw (part-length specs at n l) at (h .starred)) })
+      rw e (record { meant = h .meant; completes = h .completes; digits = h .digits; within = target-within at n r (rw (part-length specs at n l) at (h .starred)) })
 
   pub target-head : s ≡ side.Head → TargetFor specs s (target.Literal lead.Heads)
   unfolding formOf starred completed objectId
-  target-head e = rw e (record { meant = refl; completes = refl; within = tt })
+  target-head e = rw e (record { meant = refl; completes = refl; digits = tt; within = tt })
 
 -- ---- the matcher
 

@@ -4,7 +4,7 @@ ghost use lib.ListN.{length};
 ghost use Rattle.parse.specs.Places.{SidesWithin, specMeant};
 ghost use Rattle.matcher.specs.Matching.{Matches};
 
-mod needle;
+pub mod needle;
 pub mod types;
 
 use needle::needle_of;

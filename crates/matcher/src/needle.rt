@@ -2,11 +2,9 @@
 ghost use mathlib.Core.Path.{_≡_};
 ghost use Prim.Native.Nat.{_+_, _≤_};
 ghost use lib.ListN.{length};
-ghost use Rattle.meaning.specs.Match.{completed};
 ghost use Rattle.parse.specs.declared.types.Side.the-variants.{Head};
 ghost use Rattle.parse.specs.Places.{partAt, Within};
-ghost use Rattle.matcher.specs.Matching.{ledText};
-ghost use Rattle.matcher.specs.Sides.{NeedleOf, NeedleFor, TargetOf, TargetFor};
+ghost use Rattle.matcher.specs.Sides.{NeedleOf, NeedleFor, LeadOf, TargetOf, TargetFor};
 use super::types::Lead;
 use super::types::Needle;
 use super::types::Target;
@@ -65,7 +63,7 @@ pub(crate) fn needle_of(specs: &[u8], negative: bool, side: Side) -> Needle
 
 // How a literal destination is led where it is completed.
 fn lead_of(t: &[u8]) -> Lead
-    ensures { λ r. ⌜ completed (now (t .entry)) ≡ ledText r (now (t .entry)) ⌝ }
+    ensures { λ r. ⌜ LeadOf (now (t .entry)) r ⌝ }
 {
     if compare::begins(b"refs/", t) {
         return Lead::AsIs;
@@ -104,7 +102,7 @@ fn part_target(specs: &[u8], at: usize, n: usize) -> Target
 }
 
 // What a destination is.
-pub(crate) fn target_of(specs: &[u8], side: Side) -> Target
+pub fn target_of(specs: &[u8], side: Side) -> Target
     requires { ⌜ Within (length (now specs)) side ⌝ }
     ensures { λ r. ⌜ TargetFor (now (specs .entry)) side r ⌝ }
 {

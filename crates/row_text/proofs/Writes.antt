@@ -16,10 +16,10 @@ use Rattle.buffer.proofs.Pairs.{pair-second}
 use Rattle.buffer.proofs.Lowers.{lower-length}
 use Rattle.buffer.proofs.Writing.{Writing, writing-starts, writing-room, writing-more, written-place, written-whole}
 use Rattle.parse.specs.declared.types.Side.{Side}
-use Rattle.parse.specs.declared.types.Side.the-variants as side
 use Rattle.parse.specs.Places.{partAt, Within}
 use Rattle.parse.proofs.Parts.{part-length}
 use Rattle.refspec.specs.Instructions.{sideText}
+use Rattle.refspec.proofs.Texts.{side-short}
 use Rattle.matcher.specs.declared.types.Lead.{Lead}
 use Rattle.matcher.specs.declared.types.Lead.the-variants as lead
 use Rattle.matcher.specs.declared.types.Filled.{Filled}
@@ -45,12 +45,6 @@ lead-short lead.Refs = omega arith
 lead-short lead.Heads = omega arith
 lead-short lead.HeadsDigits = omega arith
 lead-short lead.Digits = omega arith
-
--- a side has not many more bytes than the list
-side-short : (specs : Text) (s : Side) → Within (length specs) s → length (sideText specs s) ≤ length specs + 4
-side-short specs side.Absent w = omega arith
-side-short specs (side.Part at n) w = omega (arith, part-length specs at n w)
-side-short specs side.Head w = omega arith
 
 module _ (specs : Text) (l : Lead) (s : Side) (u : Text) (eu : u ≡ sideText specs s) (n : ℕ) (en : n ≡ leadSize l) where
   -- a side that is led has so many

@@ -1,9 +1,10 @@
 // The C interface: include/vasigmon.h declares what stands here. Each entry hands its arguments to the function behind it and gives the
 // answer as plain numbers; no entry asks anything of its caller.
 ghost use mathlib.Core.Path.{_≡_};
-ghost use Rattle.meaning.specs.Buffers.{MeetsOne, MeetsTwo};
+ghost use Rattle.meaning.specs.Buffers.{MeetsOne, MeetsMaybe, MeetsTwo};
 ghost use Rattle.meaning.specs.Entries.{toBstring, expanded, matchLhs, matchRhs, validated};
 ghost use Rattle.meaning.specs.View.{sourceView};
+ghost use Rattle.meaning.specs.Collide.{collideBytes};
 ghost use Rattle.parse.specs.Places.{parsed};
 ghost use Rattle.refspec.specs.Instructions.{instructedPlaces};
 ghost use Rattle.refspec.specs.Prefixes.{prefixedPlaces};
@@ -17,6 +18,8 @@ use answers::instruction_answer;
 use answers::prefix_answer;
 use answers::spec_answer;
 use buffer::written::Written;
+use collide::answer::Collision;
+use collide::collide;
 use expand::expand_prefixes;
 use match_group::match_lhs;
 use match_group::match_rhs;
@@ -120,4 +123,12 @@ pub extern "C" fn vasigmon_source(
     ensures { λ r. ⌜ r ≡ partOf (sourceView op (now (specs .entry)) (now (items .entry)) «item_field» spec) ⌝ }
 {
     source(op, specs, items, item_field, spec)
+}
+
+// Whether two fetch specs can ever collide, and a destination on which they do.
+#[no_mangle]
+pub extern "C" fn vasigmon_collide(first: &[u8], second: &[u8], out: &mut [u8]) -> Collision
+    ensures { λ c. ⌜ MeetsMaybe (collideBytes (now (first .entry)) (now (second .entry))) (now (out .entry)) (now (out .exit)) (c .refusal) (c .which) (c .collides) (c .length) ⌝ }
+{
+    collide(first, second, out)
 }
