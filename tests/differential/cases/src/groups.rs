@@ -206,7 +206,7 @@ impl Maker<'_> {
 }
 
 /// A side of a spec: its destination, or else its source.
-fn side(spec: &[u8], destination: bool) -> &[u8] {
+pub fn side(spec: &[u8], destination: bool) -> &[u8] {
     let rest = spec.strip_prefix(b"+").or(spec.strip_prefix(b"^")).unwrap_or(spec);
     match rest.iter().rposition(|byte| *byte == b':') {
         Some(colon) if destination => &rest[colon + 1..],

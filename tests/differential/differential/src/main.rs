@@ -1,7 +1,9 @@
 //! Runs gix-refspec and the archive on the same specs, on the same groups of specs and
-//! items, and on the same rows, and compares all they answer. See ../README.md.
+//! items, on the same rows and on the same pairs of specs, and compares all they answer. See
+//! ../README.md.
 
 mod buffers;
+mod collisions;
 mod damage;
 mod groups;
 mod hex;
@@ -11,27 +13,32 @@ mod validation;
 mod work;
 
 use cases::Random;
+use collisions::Pair;
 use groups::Lists;
 use hex::from_hex;
 use std::process::ExitCode;
 use validation::{Case, Second};
 use work::Sample;
 
-const USAGE: &str = "usage: differential [--seed N] [--one-in N] [--part specs|groups|validation] \
-    [--count N] [--groups N] [--listings N] [--fault oracle|ours|paper] \
-    [--op N --spec-hex HEX | --op N --specs-hex HEX --items-hex HEX | --op N --specs-hex HEX --rows-hex HEX]";
+const USAGE: &str = "usage: differential [--seed N] [--one-in N] [--part specs|groups|validation|collisions] \
+    [--count N] [--groups N] [--listings N] [--pairs N] [--fault oracle|ours|paper] \
+    [--op N --spec-hex HEX | --op N --specs-hex HEX --items-hex HEX | --op N --specs-hex HEX --rows-hex HEX | \
+    --first-hex HEX --second-hex HEX]";
 
 /// A wrong answer that is put in on purpose, to show that the comparison sees it.
 #[derive(Clone, Copy, PartialEq, Eq)]
 pub enum Fault {
     None,
     /// The crate's side: the force of each fetch that updates is flipped, each reverse
-    /// listing loses its last row, and the sources of each conflict are reversed.
+    /// listing loses its last row, the sources of each conflict are reversed, and of the
+    /// destinations of a spec, or of two, the last is lost.
     Oracle,
     /// Our side: each list of prefixes of one spec loses its last one, each forward
-    /// listing its last row, and each list of fixes its last byte.
+    /// listing its last row, and each list of fixes and each destination of two specs
+    /// its last byte.
     Ours,
-    /// The paper's side: each refusal of a list names the next record.
+    /// The paper's side: each refusal of a list names the next record, and each refusal
+    /// of one of two specs the other.
     Paper,
 }
 
@@ -55,20 +62,23 @@ struct Options {
     count: u64,
     groups: u64,
     listings: u64,
+    pairs: u64,
     fault: Fault,
     op: u64,
     spec: Option<Vec<u8>>,
+    pair: [Option<Vec<u8>>; 2],
     specs: Option<Vec<u8>>,
     items: Option<Vec<u8>>,
     rows: Option<Vec<u8>>,
 }
 
-/// What is compared: single specs, groups, rows.
+/// What is compared: single specs, groups, rows, pairs of specs.
 #[derive(Clone, Copy, PartialEq, Eq)]
 enum Part {
     Specs,
     Groups,
     Validation,
+    Collisions,
 }
 
 fn options() -> Option<Options> {
@@ -78,9 +88,11 @@ fn options() -> Option<Options> {
         count: 1_000_000,
         groups: 500_000,
         listings: 120_000,
+        pairs: 200_000,
         fault: Fault::None,
         op: 0,
         spec: None,
+        pair: [None, None],
         specs: None,
         items: None,
         rows: None,
@@ -94,11 +106,15 @@ fn options() -> Option<Options> {
             "--part" if value == "specs" => options.part = Some(Part::Specs),
             "--part" if value == "groups" => options.part = Some(Part::Groups),
             "--part" if value == "validation" => options.part = Some(Part::Validation),
+            "--part" if value == "collisions" => options.part = Some(Part::Collisions),
             "--count" => options.count = value.parse().ok()?,
             "--groups" => options.groups = value.parse().ok()?,
             "--listings" => options.listings = value.parse().ok()?,
+            "--pairs" => options.pairs = value.parse().ok()?,
             "--op" => options.op = value.parse().ok()?,
             "--spec-hex" => options.spec = Some(from_hex(&value)?),
+            "--first-hex" => options.pair[0] = Some(from_hex(&value)?),
+            "--second-hex" => options.pair[1] = Some(from_hex(&value)?),
             "--specs-hex" => options.specs = Some(from_hex(&value)?),
             "--items-hex" => options.items = Some(from_hex(&value)?),
             "--rows-hex" => options.rows = Some(from_hex(&value)?),
@@ -120,25 +136,32 @@ fn main() -> ExitCode {
     let noise: Vec<u8> = (0..8 * cases::SPEC_LIMIT).map(|_| random.next() as u8).collect();
     let specs = specs::Comparison { fault: options.fault, noise: noise.clone() };
     let groups = groups::Comparison { entries: groups::ENTRIES, fault: options.fault, noise: noise.clone() };
-    let validation = validation::Comparison { entry: validation::ENTRY, fault: options.fault, noise };
+    let validation =
+        validation::Comparison { entry: validation::ENTRY, fault: options.fault, noise: noise.clone() };
+    let collisions = collisions::Comparison { entry: collisions::ENTRY, fault: options.fault, noise };
 
     let (op, part) = (options.op, options.part);
     let passed = if let Some(spec) = options.spec {
         specs::one(&specs, op, &spec)
+    } else if let [Some(first), Some(second)] = options.pair {
+        collisions::one(&collisions, &Pair { first, second })
     } else if let (Some(rows), specs) = (options.rows, options.specs.clone().unwrap_or_default()) {
         validation::one(&validation, &Case { op, specs, second: Second::Rows(rows) })
     } else if options.specs.is_some() || options.items.is_some() {
         let (specs, items) = (options.specs.unwrap_or_default(), options.items.unwrap_or_default());
-        if part == Some(Part::Validation) {
-            validation::one(&validation, &Case { op, specs, second: Second::Items(items) })
-        } else {
-            groups::one(&groups, &Lists { op, specs, items })
+        match part {
+            Some(Part::Validation) => {
+                validation::one(&validation, &Case { op, specs, second: Second::Items(items) })
+            }
+            Some(Part::Collisions) => collisions::one_group(&collisions, &specs, &items),
+            _ => groups::one(&groups, &Lists { op, specs, items }),
         }
     } else {
         let compares = |one| part.is_none_or(|part| part == one);
         (!compares(Part::Specs) || specs::run(specs, options.sample, options.count))
             && (!compares(Part::Groups) || groups::run(groups, options.sample, options.groups))
             && (!compares(Part::Validation) || validation::run(validation, options.sample, options.listings))
+            && (!compares(Part::Collisions) || collisions::run(collisions, options.sample, options.pairs))
     };
     if passed { ExitCode::SUCCESS } else { ExitCode::FAILURE }
 }

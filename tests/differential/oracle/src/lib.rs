@@ -1,11 +1,13 @@
 //! What gix-refspec answers, about one spec in the numbers and places of the C
-//! interface, about a group of specs as rows, and about rows, so that the two can be
-//! compared field by field.
+//! interface, about a group of specs as rows, about rows, and about where two specs
+//! write, so that the two can be compared field by field.
 
+mod collisions;
 mod groups;
 mod refusal;
 mod validation;
 
+pub use collisions::{FetchSpec, shared};
 pub use groups::{Group, Row};
 pub use validation::{Conflict, ConflictSource, Fix, Verdict};
 

@@ -212,7 +212,7 @@ fn literally<'a>(side: &[u8], name: &'a [u8]) -> Option<&'a [u8]> {
 /// "A literal destination outside `refs/` becomes `refs/heads/` and an object id's
 /// lower-case digits, or `refs/` and the name for `tags/` and `remotes/`, or
 /// `refs/heads/` and the name."
-fn completed(destination: &[u8]) -> Vec<u8> {
+pub fn completed(destination: &[u8]) -> Vec<u8> {
     if destination.starts_with(b"refs/") {
         destination.to_vec()
     } else if let Some(digits) = object(destination) {

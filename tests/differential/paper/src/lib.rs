@@ -1,8 +1,9 @@
-//! Document 01, read a second time: what it says of specs, lists, groups and rows, as
-//! plainly as it goes and with no eye on speed. It is written from the paper's
+//! Documents 01 and 02, read a second time: what they say of specs, lists, groups and
+//! rows, as plainly as it goes and with no eye on speed. It is written from the papers'
 //! sentences, which it cites, and is no translation of our code or of gix-refspec.
 
 mod calls;
+mod collision;
 mod group;
 mod list;
 mod name;
@@ -11,6 +12,7 @@ mod spec;
 mod validation;
 
 pub use calls::{group_prefixes, match_lhs, match_rhs, source, validated};
+pub use collision::{RefusedSpec, collide};
 pub use group::{Group, Part, Row};
 pub use list::{Items, list, read_row};
 pub use spec::{Mode, Spec, read_spec};

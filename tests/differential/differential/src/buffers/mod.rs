@@ -5,10 +5,50 @@ mod two;
 
 pub use two::{Two, TwoCall, two_refused, two_written};
 
-use vasigmon::raw::Written;
+use vasigmon::raw::{Collision, Written};
+
+/// What a call on one buffer answers.
+pub trait Answer: Copy + PartialEq + std::fmt::Debug {
+    /// The answer of a call that wrote so many bytes.
+    fn wrote(length: u64) -> Self;
+
+    /// The answer to a buffer that is too short, with the length that it tells.
+    fn short(length: u64) -> Self;
+
+    fn length(self) -> u64;
+}
+
+impl Answer for Written {
+    fn wrote(length: u64) -> Written {
+        Written { length, ..Default::default() }
+    }
+
+    fn short(length: u64) -> Written {
+        Written { refusal: 17, length, ..Default::default() }
+    }
+
+    fn length(self) -> u64 {
+        self.length
+    }
+}
+
+/// Only two specs that collide have something to write.
+impl Answer for Collision {
+    fn wrote(length: u64) -> Collision {
+        Collision { collides: 1, length, ..Default::default() }
+    }
+
+    fn short(length: u64) -> Collision {
+        Collision { refusal: 17, length, ..Default::default() }
+    }
+
+    fn length(self) -> u64 {
+        self.length
+    }
+}
 
 /// A call that writes, with all its arguments but the buffer.
-pub type Call<'a> = &'a dyn Fn(&mut [u8]) -> Written;
+pub type Call<'a, A = Written> = &'a dyn Fn(&mut [u8]) -> A;
 
 /// With how many further buffers a call that writes is made again.
 #[derive(Clone, Copy)]
@@ -54,15 +94,15 @@ pub fn alike<T: PartialEq + std::fmt::Debug>(what: &str, found: T, expected: T) 
 }
 
 /// Calls with a buffer of noise: what is answered, and the buffer after it.
-fn lend(what: &str, call: Call, noise: &[u8]) -> Result<(Written, Lent), String> {
+fn lend<A: Answer>(what: &str, call: Call<A>, noise: &[u8]) -> Result<(A, Lent), String> {
     let mut buffer = Lent::new(noise);
     let answer = call(buffer.bytes_mut());
     buffer.within(what)?;
     Ok((answer, buffer))
 }
 
-/// Complains unless a call is refused with this answer, its buffer untouched.
-pub fn refused(what: &str, call: Call, noise: &[u8], expected: Written) -> Result<(), String> {
+/// Complains unless a call has this answer and leaves its buffer untouched.
+pub fn refused<A: Answer>(what: &str, call: Call<A>, noise: &[u8], expected: A) -> Result<(), String> {
     let (answer, buffer) = lend(what, call, noise)?;
     alike(what, answer, expected)?;
     untouched(what, buffer.bytes(), noise)
@@ -75,13 +115,13 @@ fn untouched(what: &str, bytes: &[u8], noise: &[u8]) -> Result<(), String> {
 
 /// The bytes that a call writes, found with a buffer that is surely long enough.
 /// The same call with shorter and exact buffers must keep the rules of 17.
-pub fn written(what: &str, call: Call, noise: &[u8], again: Again) -> Result<Vec<u8>, String> {
+pub fn written<A: Answer>(what: &str, call: Call<A>, noise: &[u8], again: Again) -> Result<Vec<u8>, String> {
     let (answer, buffer) = lend(what, call, noise)?;
-    let need = answer.length as usize;
+    let need = answer.length() as usize;
     if need > noise.len() {
         return Err(format!("{what} answers {answer:?} to a buffer of {} bytes", noise.len()));
     }
-    alike(what, answer, Written { refusal: 0, record: 0, length: answer.length })?;
+    alike(what, answer, A::wrote(answer.length()))?;
     untouched(what, &buffer.bytes()[need..], &noise[need..])?;
     let bytes = &buffer.bytes()[..need];
 
@@ -112,10 +152,10 @@ pub fn written(what: &str, call: Call, noise: &[u8], again: Again) -> Result<Vec
 
 /// Complains unless a short buffer is told 17 and a length between what is
 /// needed and twice that. Answers that length.
-fn short(what: &str, call: Call, noise: &[u8], need: usize) -> Result<usize, String> {
+fn short<A: Answer>(what: &str, call: Call<A>, noise: &[u8], need: usize) -> Result<usize, String> {
     let (answer, buffer) = lend(what, call, noise)?;
-    alike(what, answer, Written { refusal: 17, record: 0, length: answer.length })?;
-    let told = answer.length as usize;
+    alike(what, answer, A::short(answer.length()))?;
+    let told = answer.length() as usize;
     if told < need || told > 2 * need {
         return Err(format!("{what} needs {need} bytes and asks for {told}"));
     }
