@@ -39,6 +39,12 @@ static void spoil(struct answer answer)
     if (fault(&answer, "number") && accepted) {
         answer.numbers[answer.count - 1] += 1;
     }
+    if (fault(&answer, "which") && !accepted) {
+        answer.numbers[1] += 1;
+    }
+    if (fault(&answer, "mark") && accepted) {
+        answer.numbers[2] ^= 1;
+    }
     if (fault(&answer, "byte") && accepted && *answer.length > 0) {
         answer.out[*answer.length - 1] ^= 1;
     }
@@ -72,6 +78,7 @@ static void spoil(struct answer answer)
 #define TAKES_SPEC uint64_t op, const uint8_t *spec, size_t spec_len
 #define TAKES_SPECS uint64_t op, const uint8_t *specs, size_t specs_len
 #define TAKES_ITEMS const uint8_t *items, size_t items_len
+#define TAKES_SECOND const uint8_t *second, size_t second_len
 #define TAKES_OUT uint8_t *out, size_t out_len
 
 SPOILED(vasigmon_spec, parse, (TAKES_SPEC), (op, spec, spec_len), spec, NULL, NULL, 0)
@@ -81,6 +88,8 @@ SPOILED(vasigmon_written, to_bstring, (TAKES_SPEC, TAKES_OUT),
         (op, spec, spec_len, out, out_len), spec, &it.length, out, out_len)
 SPOILED(vasigmon_written, expand_prefixes, (TAKES_SPEC, TAKES_OUT),
         (op, spec, spec_len, out, out_len), spec, &it.length, out, out_len)
+SPOILED(vasigmon_collision, collide, (const uint8_t *first, size_t first_len, TAKES_SECOND, TAKES_OUT),
+        (first, first_len, second, second_len, out, out_len), second, &it.length, out, out_len)
 SPOILED(vasigmon_written, group_prefixes, (TAKES_SPECS, TAKES_OUT),
         (op, specs, specs_len, out, out_len), specs, &it.length, out, out_len)
 SPOILED(vasigmon_written, match_lhs, (TAKES_SPECS, TAKES_ITEMS, TAKES_OUT),

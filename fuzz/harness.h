@@ -1,4 +1,4 @@
-/* What the three harnesses share: texts, lists and their plainest reader and writer,
+/* What the harnesses share: texts, lists and their plainest reader and writer,
  * buffers that end or begin at a page without access, and the rules of lent buffers. A
  * promise of include/vasigmon.h that is broken ends the process. */
 #ifndef HARNESS_H
@@ -164,6 +164,41 @@ static const char *const FRAMES[6][2] = {{"", ""},
                                          {"refs/heads/", ""},
                                          {"refs/remotes/", ""},
                                          {"refs/remotes/", "/HEAD"}};
+
+/* ---- Sides of specs. */
+
+/* Whether a side, a pattern or literal, is that of a name; and what the star stands for. */
+static inline bool matches(struct text side, struct text name, struct text *capture)
+{
+    *capture = part(name, 0, 0);
+    if (!has(side, '*')) {
+        return same(side, name);
+    }
+    size_t star = before(side, '*');
+    struct text start = part(side, 0, star);
+    struct text end = part(side, star + 1, side.length - star - 1);
+    if (name.length < start.length + end.length || !begins(name, start) || !ends(name, end)) {
+        return false;
+    }
+    *capture = part(name, start.length, name.length - start.length - end.length);
+    return true;
+}
+
+/* A destination without star, as a full name. */
+static inline struct text completed(uint8_t *room, struct text destination)
+{
+    struct bytes out = {room, 0};
+    bool below_refs = begins(destination, word("tags/")) || begins(destination, word("remotes/"));
+    if (!begins(destination, word("refs/"))) {
+        put(&out, word(below_refs ? "refs/" : "refs/heads/"));
+    }
+    if (object_id(destination)) {
+        put_lower(&out, destination);
+    } else {
+        put(&out, destination);
+    }
+    return text_of(out);
+}
 
 /* ---- Reading lists. Each takes something off the front, or answers false. */
 

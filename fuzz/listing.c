@@ -62,23 +62,6 @@ static bool object_source(const struct group *group, size_t n)
     return !negative(group, n) && object_id(source_of(group, n));
 }
 
-/* Whether a side, a pattern or literal, is that of a name; and what the star stands for. */
-static bool matches(struct text side, struct text name, struct text *capture)
-{
-    *capture = part(name, 0, 0);
-    if (!has(side, '*')) {
-        return same(side, name);
-    }
-    size_t star = before(side, '*');
-    struct text start = part(side, 0, star);
-    struct text end = part(side, star + 1, side.length - star - 1);
-    if (name.length < start.length + end.length || !begins(name, start) || !ends(name, end)) {
-        return false;
-    }
-    *capture = part(name, start.length, name.length - start.length - end.length);
-    return true;
-}
-
 static bool is_candidate(struct text partial, struct text name)
 {
     for (size_t n = 0; n < 6; n++) {
@@ -121,22 +104,6 @@ static struct text filled(uint8_t *room, struct text side, struct text capture)
     if (star < side.length) {
         put(&out, capture);
         put(&out, part(side, star + 1, side.length - star - 1));
-    }
-    return text_of(out);
-}
-
-/* A destination without star, as a full name. */
-static struct text completed(uint8_t *room, struct text destination)
-{
-    struct bytes out = {room, 0};
-    bool below_refs = begins(destination, word("tags/")) || begins(destination, word("remotes/"));
-    if (!begins(destination, word("refs/"))) {
-        put(&out, word(below_refs ? "refs/" : "refs/heads/"));
-    }
-    if (object_id(destination)) {
-        put_lower(&out, destination);
-    } else {
-        put(&out, destination);
     }
     return text_of(out);
 }

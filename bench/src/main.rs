@@ -5,6 +5,7 @@
 //!
 //! from the repository's top builds this and runs it. README.md says what is compared.
 
+mod collision;
 mod counting;
 mod group;
 mod growth;
@@ -70,6 +71,7 @@ fn main() -> ExitCode {
 fn run() -> io::Result<()> {
     let arguments = Arguments::read()?;
     let mut workloads: Vec<Workload> = reading::workloads();
+    workloads.extend(collision::workloads());
     workloads.extend(listing::workloads());
     workloads.extend(validation::workloads());
     if let Some(numbers) = &arguments.counted {

@@ -8,6 +8,7 @@ pub enum Work {
     Reading,
     Text,
     Prefixes,
+    Collide,
     Forward,
     Reverse,
     Validation,
@@ -19,6 +20,7 @@ impl Work {
             Work::Reading => "reading",
             Work::Text => "text",
             Work::Prefixes => "prefixes",
+            Work::Collide => "collide",
             Work::Forward => "forward",
             Work::Reverse => "reverse",
             Work::Validation => "validation",
@@ -31,6 +33,7 @@ impl Work {
             Work::Reading => "reading",
             Work::Text => "canonical text",
             Work::Prefixes => "prefixes",
+            Work::Collide => "collisions: each of 10,000 specs beside another",
             Work::Forward => "forward listing: specs x items, and how many of these are mapped",
             Work::Reverse => "reverse listing: specs x items, and how many of these are mapped",
             Work::Validation => "validation",
@@ -41,7 +44,7 @@ impl Work {
     pub fn bar(self) -> Option<f64> {
         match self {
             Work::Reading | Work::Text => Some(2.0),
-            Work::Prefixes => None,
+            Work::Prefixes | Work::Collide => None,
             Work::Forward | Work::Reverse => Some(3.0),
             Work::Validation => Some(1.0),
         }
@@ -53,6 +56,7 @@ impl Work {
             Work::Reading => "vasigmon_parse on each spec; there is no buffer",
             Work::Text => "vasigmon_to_bstring on each spec, to one buffer that is not cleared",
             Work::Prefixes => "vasigmon_expand_prefixes on each spec, to one buffer that is not cleared",
+            Work::Collide => "vasigmon_collide on each pair, to one buffer that is not cleared",
             Work::Forward => "vasigmon_match_lhs on both lists, to one buffer that is not cleared",
             Work::Reverse => "vasigmon_match_rhs on both lists, to one buffer that is not cleared",
             Work::Validation => "vasigmon_validated on both lists, to two buffers that are not cleared",
@@ -65,6 +69,7 @@ impl Work {
             Work::Reading => "parse of each spec",
             Work::Text => "parse and to_bstring of each spec, allocated and freed",
             Work::Prefixes => "parse and expand_prefixes of each spec, allocated and freed",
+            Work::Collide => "parse of both specs of each pair, and no more: it has no such report",
             Work::Forward => "parse of each spec, then match_lhs, allocated and freed",
             Work::Reverse => "parse of each spec, then match_rhs, allocated and freed",
             Work::Validation => "validated of mappings that are cloned outside of the time",
