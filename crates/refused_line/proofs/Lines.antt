@@ -65,13 +65,3 @@ module _ (n : ℕ) (l : Text) (a : Line) (tells : TellsLine l a) where
   module _ (at : ℕ) where
     pub byte-name : a ≡ Name at → 0 ≡ lineByte n l
     byte-name e = by-held (name (drop at l)) (rw e at (tells .means)) 0 (omega arith)
-
-    -- the place stands within the line
-    pub fetch-within : a ≡ Fetch at → at ≤ length l
-    fetch-within e = rw e at (tells .within)
-
-    pub push-within : a ≡ Push at → at ≤ length l
-    push-within e = rw e at (tells .within)
-
-    pub shown-within : a ≡ Shown at → at ≤ length l
-    shown-within e = rw e at (tells .within)

@@ -4,18 +4,14 @@
 ghost use Prim.Native.Nat.{_≤_};
 ghost use lib.ListN.{length};
 ghost use Rattle.meaning.specs.Limits.{programBytes};
-use limits::PROGRAM_BYTES;
 use stdio::INPUT_ROOM;
 use stdio::Input;
 use stdio::finish;
-use stdio::read_input;
-use stdio::tell;
-use stdio::tell_unread;
 use text_lists::line::Line;
 use text_lists::line::classify;
 use text_lists::line::next_line;
+use text_program::read_text;
 
-mod output;
 mod refused;
 mod show;
 
@@ -70,21 +66,10 @@ fn answer(s: &[u8])
     finish(show_lines(s));
 }
 
-// The same of the first n bytes of a buffer, unless they are too many.
-fn show_first(buffer: &[u8], n: usize)
-    requires { ⌜ n ≤ length (now buffer) ⌝ }
-{
-    if PROGRAM_BYTES < n {
-        tell(b"the input is above 65,536 bytes\n");
-        return;
-    }
-    answer(&buffer[..n]);
-}
-
 fn main() {
     let mut input = [0u8; INPUT_ROOM];
-    match read_input(&mut input) {
-        Input::Read(n) => show_first(&input, n),
-        Input::Failed => tell_unread(),
+    match read_text(&mut input) {
+        Input::Read(n) => answer(&input[..n]),
+        Input::Failed => {}
     }
 }

@@ -3,14 +3,12 @@ ghost use Prim.Native.Nat.{_≤_};
 ghost use lib.ListN.{length};
 ghost use Rattle.meaning.specs.Limits.{programBytes};
 use parse::Parsed;
-use refused_line::MESSAGE_ROOM;
-use refused_line::put_refused;
-use stdio::tell;
 use text_lists::MARKED;
 use text_lists::UNKNOWN;
 use text_lists::line::Line;
 use text_lists::line::classify;
 use text_lists::line::next_line;
+use text_program::tell_refused;
 
 // Why a spec is refused; 0: it is not.
 fn spec_reason(op: u64, spec: &[u8]) -> u64 {
@@ -39,15 +37,6 @@ fn line_reason(line: &[u8]) -> u64 {
         Line::Marked => MARKED,
         Line::Unknown => UNKNOWN,
     }
-}
-
-// Tells which line is refused, and why.
-fn tell_refused(number: usize, reason: u64, line: &[u8])
-    requires { ⌜ length (now line) ≤ programBytes ⌝ }
-{
-    let mut out = [0u8; MESSAGE_ROOM];
-    let n = put_refused(&mut out, number, reason, line);
-    tell(&out[..n]);
 }
 
 // Tells that a line is refused, if it is; answers whether it is.

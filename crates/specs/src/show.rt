@@ -1,7 +1,4 @@
 // What a spec becomes, in words: its instruction, its sides, its canonical text, its prefix and the prefixes that it yields.
-use super::output::say_field;
-use super::output::say_line;
-use super::output::say_text;
 use expand::expand_prefixes;
 use frames::FRAMES;
 use number::Number;
@@ -12,7 +9,16 @@ use refspec::spec::Prefixed;
 use refspec::spec::instruction;
 use refspec::spec::prefix;
 use stdio::say;
+use text_program::output::say_line;
+use text_program::output::say_text;
 use write::to_bstring;
+
+// Prints a text after its name, as a line.
+fn say_field(whole: bool, name: &[u8], t: &[u8]) -> bool {
+    let w = say(whole, name);
+    let x = say_text(w, t);
+    say(x, b"\n")
+}
 
 // Begins the block of a spec.
 fn show_head(whole: bool, what: &[u8], force: bool) -> bool {
@@ -195,10 +201,17 @@ fn show_accepted(whole: bool, op: u64, spec: &[u8], i: Instruction) -> bool {
     show_prefixes(y, op, spec)
 }
 
+// Prints what the accepted spec on a line becomes, after the number of the line.
+fn show_numbered(whole: bool, number: usize, op: u64, spec: &[u8], i: Instruction) -> bool {
+    let w = say_line(whole, number);
+    let x = say(w, b": ");
+    show_accepted(x, op, spec, i)
+}
+
 // Prints what the spec on a line becomes; one that is refused has been told.
 pub(crate) fn show_spec(whole: bool, number: usize, op: u64, spec: &[u8]) -> bool {
     match instruction(op, spec) {
-        Instructed::To(i) => show_accepted(say_line(whole, number), op, spec, i),
+        Instructed::To(i) => show_numbered(whole, number, op, spec, i),
         Instructed::Refused(_) => whole,
     }
 }

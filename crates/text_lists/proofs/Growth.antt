@@ -232,13 +232,3 @@ module _ (line : Text) (a : Line) (tells : TellsLine line a) (so : Lists) (d₁ 
             specs-grow = stays-new specListBytes (r .reason) [] (none-new (r .reason)) (so .specs) (so .«specs_size») (r .specs) (r .«specs_size») d₁ (x .specs-stay) (x .bytes-stay) (room₁ .small);
             names-grow = x .grows;
           })
-
-  -- the place stands within the line
-  pub fetch-within : (at : ℕ) → a ≡ Fetch at → at ≤ length line
-  fetch-within at e = rw e at (tells .within)
-
-  pub name-within : (at : ℕ) → a ≡ Name at → at ≤ length line
-  name-within at e = rw e at (tells .within)
-
-  pub shown-within : (at : ℕ) → a ≡ Shown at → at ≤ length line
-  shown-within at e = rw e at (tells .within)

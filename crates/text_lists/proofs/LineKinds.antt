@@ -8,6 +8,7 @@ use lib.Dec.{eqb}
 use lib.ListN.{length, drop, length-append}
 use Rattle.meaning.specs.Bytes.{Text, bytes, every, begins}
 use Rattle.promises.proofs.Captures.{begins-is}
+use Rattle.text_lists.specs.declared.line.Line.{Line}
 use Rattle.text_lists.specs.declared.line.Line.the-variants.{Nothing, Fetch, Push, Name, Shown, Marked, Unknown}
 use Rattle.text_lists.specs.Line.{blankByte, byteOrderMark, heldIn, TellsLine}
 
@@ -61,3 +62,17 @@ module _ (t : Text) (a : Bool) (ea : a ≡ every blankByte t) where
               pub line-unknown : m ≡ false → TellsLine t Unknown
               unfolding heldIn
               line-unknown e = record { means = rw (sym ea ∙ na, sym eb ∙ nb, sym ef ∙ nf, sym ep ∙ np, sym en ∙ nn, sym ew ∙ nw, sym em ∙ e); within = _ }
+
+-- the place of what a line holds stands within the line
+module _ (l : Text) (a : Line) (tells : TellsLine l a) (at : ℕ) where
+  pub fetch-within : a ≡ Fetch at → at ≤ length l
+  fetch-within e = rw e at (tells .within)
+
+  pub push-within : a ≡ Push at → at ≤ length l
+  push-within e = rw e at (tells .within)
+
+  pub name-within : a ≡ Name at → at ≤ length l
+  name-within e = rw e at (tells .within)
+
+  pub shown-within : a ≡ Shown at → at ≤ length l
+  shown-within e = rw e at (tells .within)

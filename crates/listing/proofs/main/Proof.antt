@@ -1,29 +1,30 @@
--- What was read stands in its buffer. Assumes nothing.
-use Rattle.stdio.proofs.Counting.{read-within}
+-- A text that was read stands in its buffer, and is no longer than its limit. Assumes nothing.
+use lib.Seq.{length-take-le}
+use Rattle.text_program.proofs.Texts.{text-within, text-small}
 use borrow.Author.Needs.{needs}
 use Rattle.listing.proofs.main.Statement.{statement}
 use Rattle.listing.proofs.main.Tie as tie
 
-slice-aggregate-read-input : tie.Need-slice-aggregate-read-input
-slice-aggregate-read-input c = search needs
+slice-aggregate-read-text : tie.Need-slice-aggregate-read-text
+slice-aggregate-read-text c = search needs
 
-read-input-requires : tie.Need-read-input-requires
-read-input-requires c κs = search needs
+read-text-requires : tie.Need-read-text-requires
+read-text-requires c κs = search needs
 
 enum-known-n : tie.Need-enum-known-n
 enum-known-n c = search needs
 
-slice-aggregate-show-first : tie.Need-slice-aggregate-show-first
-slice-aggregate-show-first c = search needs
+array-share-prefix-input : tie.Need-array-share-prefix-input
+array-share-prefix-input c = search text-within
 
-show-first-requires : tie.Need-show-first-requires
-show-first-requires c κs = search read-within
+slice-aggregate-show : tie.Need-slice-aggregate-show
+slice-aggregate-show c = search (length-take-le, text-within)
+
+show-requires : tie.Need-show-requires
+show-requires c κs = search text-small
 
 enum-told : tie.Need-enum-told
 enum-told c = search needs
-
-tell-unread-requires : tie.Need-tell-unread-requires
-tell-unread-requires c κs = search needs
 
 returns : tie.Need-returns
 returns c = search needs
@@ -35,12 +36,12 @@ pub main-spec : {M : Type 1} → statement M
 main-spec =
     tie.close
     (tie.spec
-    slice-aggregate-read-input
-    read-input-requires
+    slice-aggregate-read-text
+    read-text-requires
     enum-known-n
-    slice-aggregate-show-first
-    show-first-requires
+    array-share-prefix-input
+    slice-aggregate-show
+    show-requires
     enum-told
-    tell-unread-requires
     returns
     returns-2)

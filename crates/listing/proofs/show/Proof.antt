@@ -1,33 +1,18 @@
--- `listing::show` meets its contract: the refused line stands in the input, and the lists stand in their buffers.
+-- The lists stand in their buffers. Assumes nothing.
 use native.Mathlib.Omega.{arith}
 use lib.ListN.{length-take}
 use borrow.Author.Needs.{needs}
 use Rattle.listing.proofs.show.Statement.{statement}
 use Rattle.listing.proofs.show.Tie as tie
 
-slice-aggregate-gather : tie.Need-slice-aggregate-gather
-slice-aggregate-gather c = search needs
+slice-aggregate-gather-or-tell : tie.Need-slice-aggregate-gather-or-tell
+slice-aggregate-gather-or-tell c = search needs
 
-slice-aggregate-gather-2 : tie.Need-slice-aggregate-gather-2
-slice-aggregate-gather-2 c = search needs
+slice-aggregate-gather-or-tell-2 : tie.Need-slice-aggregate-gather-or-tell-2
+slice-aggregate-gather-or-tell-2 c = search needs
 
-gather-requires : tie.Need-gather-requires
-gather-requires c κs = search needs
-
-sub-tell-refused : tie.Need-sub-tell-refused
-sub-tell-refused c = search needs
-
-part-tell-refused-start : tie.Need-part-tell-refused-start
-part-tell-refused-start c = search needs
-
-part-tell-refused-end : tie.Need-part-tell-refused-end
-part-tell-refused-end c = search needs
-
-tell-refused-requires : tie.Need-tell-refused-requires
-tell-refused-requires c κs = search needs
-
-returns : tie.Need-returns
-returns c = search needs
+gather-or-tell-requires : tie.Need-gather-or-tell-requires
+gather-or-tell-requires c κs = search needs
 
 array-share-prefix-specs : tie.Need-array-share-prefix-specs
 array-share-prefix-specs c = search needs
@@ -44,6 +29,9 @@ slice-aggregate-show-lists-2 c = simp length-take (omega arith)
 show-lists-requires : tie.Need-show-lists-requires
 show-lists-requires c κs = search needs
 
+returns : tie.Need-returns
+returns c = search needs
+
 returns-2 : tie.Need-returns-2
 returns-2 c = search needs
 
@@ -51,17 +39,13 @@ pub show-spec : {M : Type 1} → statement M
 show-spec =
     tie.close
     (tie.spec
-    slice-aggregate-gather
-    slice-aggregate-gather-2
-    gather-requires
-    sub-tell-refused
-    part-tell-refused-start
-    part-tell-refused-end
-    tell-refused-requires
-    returns
+    slice-aggregate-gather-or-tell
+    slice-aggregate-gather-or-tell-2
+    gather-or-tell-requires
     array-share-prefix-specs
     slice-aggregate-show-lists
     array-share-prefix-items
     slice-aggregate-show-lists-2
     show-lists-requires
+    returns
     returns-2)

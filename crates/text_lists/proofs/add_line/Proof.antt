@@ -1,5 +1,6 @@
 -- `text_lists::add_line` meets its contract: each kind of line adds what it holds, or nothing.
-use Rattle.text_lists.proofs.Growth.{line-nothing, line-fetch, line-push, line-name, line-shown, line-marked, line-unknown, fetch-within, name-within, shown-within}
+use Rattle.text_lists.proofs.Growth.{line-nothing, line-fetch, line-push, line-name, line-shown, line-marked, line-unknown}
+use Rattle.text_lists.proofs.LineKinds.{fetch-within, name-within, shown-within}
 use borrow.Author.Needs.{needs}
 use Rattle.text_lists.proofs.add_line.Statement.{statement}
 use Rattle.text_lists.proofs.add_line.Tie as tie

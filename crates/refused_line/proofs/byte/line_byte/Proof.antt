@@ -1,5 +1,6 @@
 -- Each kind of line has its own. Assumes nothing.
-use Rattle.refused_line.proofs.Lines.{byte-nothing, byte-marked, byte-unknown, byte-fetch, byte-push, byte-shown, byte-name, fetch-within, push-within, shown-within}
+use Rattle.refused_line.proofs.Lines.{byte-nothing, byte-marked, byte-unknown, byte-fetch, byte-push, byte-shown, byte-name}
+use Rattle.text_lists.proofs.LineKinds.{fetch-within, push-within, shown-within}
 use borrow.Author.Needs.{needs}
 use Rattle.refused_line.proofs.byte.line_byte.Statement.{statement}
 use Rattle.refused_line.proofs.byte.line_byte.Tie as tie

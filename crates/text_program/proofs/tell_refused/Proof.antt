@@ -2,8 +2,8 @@
 use native.Mathlib.Omega.{arith}
 use lib.ListN.{length-take}
 use borrow.Author.Needs.{needs}
-use Rattle.listing.proofs.tell_refused.Statement.{statement}
-use Rattle.listing.proofs.tell_refused.Tie as tie
+use Rattle.text_program.proofs.tell_refused.Statement.{statement}
+use Rattle.text_program.proofs.tell_refused.Tie as tie
 
 slice-aggregate-put-refused : tie.Need-slice-aggregate-put-refused
 slice-aggregate-put-refused c = search needs

@@ -1,0 +1,2 @@
+-- `Texts`: how long a text is that was read.
+pub mod Texts
