@@ -1,0 +1,2 @@
+-- `Told`: a destination that is told stands in its buffer.
+pub mod Told
