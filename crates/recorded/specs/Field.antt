@@ -1,8 +1,9 @@
 -- What holding a field of a record to its bytes finds.
-use Prim.Native.Nat.{ℕ, _+_, _≤_}
+use Prim.Native.Nat.{ℕ, _+_, _-_, _≤_}
 use mathlib.Core.Path.{_≡_}
 use mathlib.Core.Bool.{false, cond}
 use mathlib.Core.List.{_++_}
+use lib.Dec.{leb}
 use lib.ListN.{length, take, drop}
 use Rattle.meaning.specs.Bytes.{Text, begins}
 use Rattle.meaning.specs.Number.{took, readText}
@@ -24,6 +25,20 @@ fieldAt s at want = cond (begins want (drop at s)) (At (at + length want)) Diffe
 pub record Stands (s : Text) (at : ℕ) (want : Text) (next : ℕ) : Type 0 where
   pub is : drop at s ≡ want ++ drop next s
   pub within : next ≤ length s
+
+-- a text of any bytes stands in s from one place to another
+pub record TextStands (s : Text) (at next : ℕ) : Type 0 where
+  pub long : at + 2 ≤ next
+  pub stands : Stands s at (sized (take (next - (at + 2)) (drop (at + 2) s))) next
+
+-- what is told of a text of any bytes at a place: it stands there, or there is none
+abbrev pub TextFound : Text → ℕ → Next → Type 0
+TextFound s at (At next) = TextStands s at next
+TextFound s at Differs = (t rest : Text) → drop at s ≡ sized t ++ rest → ⊥
+
+-- the first bytes of a buffer looked for as a text; a buffer that has fewer has no such text
+unfoldable pub frontAt : Text → ℕ → Text → ℕ → Next
+frontAt s at out size = cond (leb size (length out)) (fieldAt s at (sized (take size out))) Differs
 
 -- a text of n bytes stands in both
 pub record BothStand (s : Text) (at : ℕ) (list : Text) (from n next end : ℕ) : Type 0 where

@@ -22,11 +22,11 @@ use Rattle.prefixes.specs.Group.{groupTexts, groupPrefixes}
 use Rattle.recorded.specs.declared.field.Next.{Next}
 use Rattle.recorded.specs.declared.field.Next.the-variants.{At, Differs}
 use Rattle.recorded.specs.Record.{sized}
-use Rattle.recorded.specs.Field.{Stands}
+use Rattle.recorded.specs.Field.{Stands, TextFound}
 use Rattle.recorded.proofs.Fields.{append-left, begins-own, sized-once}
+use Rattle.recorded.proofs.Texts.{text-at}
 use Rattle.recorded_groups.specs.GroupRecord.{answerTexts, IsGroupAnswer, IsGroupRecord}
-use Rattle.recorded_groups.specs.GroupField.{TextFound, AnswerStands, AnswerFound, BackThere}
-use Rattle.recorded_groups.proofs.Fields.{text-at}
+use Rattle.recorded_groups.specs.GroupField.{AnswerStands, AnswerFound, BackThere}
 
 -- a field, and what follows it to the end
 then : (told : Text) (at : ℕ) (a rest : Text) (n : ℕ) → Stands told at a n → drop n told ≡ rest → drop at told ≡ a ++ rest

@@ -1,5 +1,5 @@
 -- What holding a field of a group's record to its bytes finds.
-use Prim.Native.Nat.{ℕ, _+_, _-_, _≤_}
+use Prim.Native.Nat.{ℕ, _≤_}
 use mathlib.Core.Path.{_≡_}
 use mathlib.Core.Bool.{false}
 use mathlib.Core.List.{[], _∷_, _++_}
@@ -15,25 +15,15 @@ use Rattle.recorded.specs.declared.field.Next.the-variants.{At, Differs}
 use Rattle.recorded.specs.Record.{sized}
 use Rattle.recorded.specs.Field.{Stands}
 
--- a text of any bytes stands in s from one place to another
-pub record TextStands (s : Text) (at next : ℕ) : Type 0 where
-  pub long : at + 2 ≤ next
-  pub stands : Stands s at (sized (take (next - (at + 2)) (drop (at + 2) s))) next
-
--- what is told of a text of any bytes at a place: it stands there, or there is none
-abbrev pub TextFound : Text → ℕ → Next → Type 0
-TextFound s at (At next) = TextStands s at next
-TextFound s at Differs = (t rest : Text) → drop at s ≡ sized t ++ rest → ⊥
-
 -- what a call that refuses nothing has written to a buffer's front stands in s
-pub record FrontStands (s : Text) (at : ℕ) (out : Text) (refusal size next : ℕ) : Type 0 where
+pub record WrittenStands (s : Text) (at : ℕ) (out : Text) (refusal size next : ℕ) : Type 0 where
   pub passes : refusal ≡ 0
   pub stands : Stands s at (sized (take size out)) next
 
 -- what is told of a buffer's front: it stands in s, or the call refused something, or it does not
-abbrev pub FrontFound : Text → ℕ → Text → ℕ → ℕ → Next → Type 0
-FrontFound s at out refusal size (At next) = FrontStands s at out refusal size next
-FrontFound s at out refusal size Differs = refusal ≡ 0 → size ≤ length out → begins (sized (take size out)) (drop at s) ≡ false
+abbrev pub WrittenFound : Text → ℕ → Text → ℕ → ℕ → Next → Type 0
+WrittenFound s at out refusal size (At next) = WrittenStands s at out refusal size next
+WrittenFound s at out refusal size Differs = refusal ≡ 0 → size ≤ length out → begins (sized (take size out)) (drop at s) ≡ false
 
 -- an answer is one text, which stands in s
 pub record AnswerStands (s : Text) (at : ℕ) (answer : Answer Outputs) (next : ℕ) : Type 0 where

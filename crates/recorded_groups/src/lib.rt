@@ -8,43 +8,25 @@ ghost use Rattle.meaning.specs.Entries.{matchLhs, matchRhs};
 ghost use Rattle.prefixes.specs.Group.{groupPrefixes};
 ghost use Rattle.recorded.specs.Record.{sizedRoom};
 ghost use Rattle.recorded_groups.specs.GroupRecord.{IsGroupAnswer, IsGroupRecord};
-ghost use Rattle.recorded_groups.specs.GroupField.{TextFound, FrontFound, AnswerFound, BackThere};
+ghost use Rattle.recorded_groups.specs.GroupField.{WrittenFound, AnswerFound, BackThere};
 use buffer::written::Written;
 use match_group::match_lhs;
 use match_group::match_rhs;
 use prefixes::group_prefixes;
 use recorded::field::Next;
-use recorded::field::text_field;
+use recorded::field::front_field;
+use recorded::field::text_end;
 use recorded::field::wide;
 
-// Where the text at `at` ends, its length before it; it differs where the record ends first.
-fn text_end(told: &[u8], at: usize) -> Next
-    requires { ⌜ at ≤ length (now told) ⌝ }
-    ensures { λ r. ⌜ TextFound (now (told .entry)) at r ⌝ }
-{
-    if told.len() - at < 2 {
-        return Next::Differs;
-    }
-    let n = wide(told[at]) + wide(told[at + 1]) * 256;
-    if told.len() - at - 2 < n {
-        return Next::Differs;
-    }
-    Next::At(at + 2 + n)
-}
-
 // What a call has written to the front of a buffer.
-fn front_field(told: &[u8], at: usize, w: Written, out: &[u8]) -> Next
+fn written_field(told: &[u8], at: usize, w: Written, out: &[u8]) -> Next
     requires { ⌜ at ≤ length (now told) ⌝ }
-    ensures { λ r. ⌜ FrontFound (now (told .entry)) at (now (out .entry)) (w .refusal) (w .length) r ⌝ }
+    ensures { λ r. ⌜ WrittenFound (now (told .entry)) at (now (out .entry)) (w .refusal) (w .length) r ⌝ }
 {
     if w.refusal != 0 {
         return Next::Differs;
     }
-    let n = w.length as usize;
-    if out.len() < n {
-        return Next::Differs;
-    }
-    text_field(told, at, &out[..n])
+    front_field(told, at, w.length, out)
 }
 
 // The rows of the forward listing.
@@ -60,7 +42,7 @@ fn lhs_field(
     ensures { λ r. ⌜ AnswerFound (now (told .entry)) at (matchLhs op (now (specs .entry)) (now (items .entry))) r ⌝ }
 {
     let w = match_lhs(op, specs, items, scratch);
-    front_field(told, at, w, scratch)
+    written_field(told, at, w, scratch)
 }
 
 // The rows of the reverse listing.
@@ -76,7 +58,7 @@ fn rhs_field(
     ensures { λ r. ⌜ AnswerFound (now (told .entry)) at (matchRhs op (now (specs .entry)) (now (items .entry))) r ⌝ }
 {
     let w = match_rhs(op, specs, items, scratch);
-    front_field(told, at, w, scratch)
+    written_field(told, at, w, scratch)
 }
 
 // The prefix list, in first-seen order.
@@ -85,7 +67,7 @@ fn prefixes_field(told: &[u8], at: usize, op: u64, specs: &[u8], scratch: &mut [
     ensures { λ r. ⌜ AnswerFound (now (told .entry)) at (groupPrefixes op (now (specs .entry))) r ⌝ }
 {
     let w = group_prefixes(op, specs, scratch);
-    front_field(told, at, w, scratch)
+    written_field(told, at, w, scratch)
 }
 
 // The rows of the reverse listing and the prefix list, from `at` to the record's end.

@@ -1,4 +1,4 @@
-// Replays recorded answers of gix-refspec, which standard input brings, and says how many of them are ours.
+// Replays recorded answers of gix-refspec, or what it showed of two specs, which standard input brings, and says how many of them are ours.
 ghost use Prim.Native.Nat.{_+_, _≤_, _<_};
 ghost use lib.ListN.{length};
 ghost use Rattle.recorded.specs.Record.{sizedRoom};
@@ -12,6 +12,7 @@ const NAMED: u64 = 10;
 pub enum Kind {
     Specs,
     Groups,
+    Pairs,
 }
 
 // What one turn came to: the list is at its end; it ends within a record, or has one that is too long; a record was compared.
@@ -48,6 +49,7 @@ fn agrees(kind: Kind, record: &[u8], scratch: &mut [u8]) -> bool
     match kind {
         Kind::Specs => recorded::agrees(record, scratch),
         Kind::Groups => recorded_groups::group_agrees(record, scratch),
+        Kind::Pairs => recorded_pairs::pair_agrees(record, scratch),
     }
 }
 
@@ -101,6 +103,7 @@ fn say_kind(kind: Kind) {
     match kind {
         Kind::Specs => say(b"answer "),
         Kind::Groups => say(b"group "),
+        Kind::Pairs => say(b"pair "),
     }
 }
 
@@ -162,7 +165,7 @@ fn replayed(kind: Kind) -> Tally
     t
 }
 
-// Replays the answers, and prints how many there are and how many of them differ or, of groups, agree.
+// Replays the answers, and prints how many there are and how many of them differ or, of groups and pairs, agree.
 pub fn replay(kind: Kind) {
     let t = replayed(kind);
     match kind {
@@ -172,6 +175,10 @@ pub fn replay(kind: Kind) {
         },
         Kind::Groups => {
             say_number(t.read, b" groups, ");
+            say_number(t.read - t.differ, b" agree\n");
+        },
+        Kind::Pairs => {
+            say_number(t.read, b" pairs, ");
             say_number(t.read - t.differ, b" agree\n");
         },
     }

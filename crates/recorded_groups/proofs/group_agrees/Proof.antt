@@ -1,5 +1,6 @@
 -- `group_agrees` meets its contract: the operation, both lists after their lengths in two bytes, and an answer that agrees are the record, and nothing else is. Assumes nothing.
-use Rattle.recorded_groups.proofs.Fields.{text-within, text-long, first-long, text-starts}
+use Rattle.recorded.proofs.Texts.{text-within, text-long, text-starts}
+use Rattle.recorded_groups.proofs.Fields.{first-long}
 use Rattle.recorded_groups.proofs.Answers.{record-none, specs-differ, items-differ, record-whole}
 use borrow.Author.Needs.{needs}
 use Rattle.recorded_groups.proofs.group_agrees.Statement.{statement}

@@ -9,8 +9,8 @@ use Rattle.recorded_groups.proofs.lhs_field.Tie as tie
 match-lhs-requires : tie.Need-match-lhs-requires
 match-lhs-requires c κs = search needs
 
-front-field-requires : tie.Need-front-field-requires
-front-field-requires c κs = search needs
+written-field-requires : tie.Need-written-field-requires
+written-field-requires c κs = search needs
 
 same-length : tie.Need-same-length
 same-length c = search needs
@@ -19,4 +19,4 @@ returns : tie.Need-returns
 returns c = let o = octets-of (now (c .before .before .before .before .before .before .before .before .before .before .args .told)) (c .before .before .before .before .before .before .before .before .before .shared-slice-known .given) in search lhs-found
 
 pub lhs-field-spec : {M : Type 1} → statement M
-lhs-field-spec = tie.close (tie.spec match-lhs-requires front-field-requires same-length returns)
+lhs-field-spec = tie.close (tie.spec match-lhs-requires written-field-requires same-length returns)

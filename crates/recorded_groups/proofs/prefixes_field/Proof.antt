@@ -9,8 +9,8 @@ use Rattle.recorded_groups.proofs.prefixes_field.Tie as tie
 group-prefixes-requires : tie.Need-group-prefixes-requires
 group-prefixes-requires c κs = search needs
 
-front-field-requires : tie.Need-front-field-requires
-front-field-requires c κs = search needs
+written-field-requires : tie.Need-written-field-requires
+written-field-requires c κs = search needs
 
 same-length : tie.Need-same-length
 same-length c = search needs
@@ -20,4 +20,4 @@ returns c = let o = octets-of (now (c .before .before .before .before .before .b
 
 pub prefixes-field-spec : {M : Type 1} → statement M
 prefixes-field-spec =
-    tie.close (tie.spec group-prefixes-requires front-field-requires same-length returns)
+    tie.close (tie.spec group-prefixes-requires written-field-requires same-length returns)

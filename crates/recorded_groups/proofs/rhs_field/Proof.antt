@@ -9,8 +9,8 @@ use Rattle.recorded_groups.proofs.rhs_field.Tie as tie
 match-rhs-requires : tie.Need-match-rhs-requires
 match-rhs-requires c κs = search needs
 
-front-field-requires : tie.Need-front-field-requires
-front-field-requires c κs = search needs
+written-field-requires : tie.Need-written-field-requires
+written-field-requires c κs = search needs
 
 same-length : tie.Need-same-length
 same-length c = search needs
@@ -19,4 +19,4 @@ returns : tie.Need-returns
 returns c = let o = octets-of (now (c .before .before .before .before .before .before .before .before .before .before .args .told)) (c .before .before .before .before .before .before .before .before .before .shared-slice-known .given) in search rhs-found
 
 pub rhs-field-spec : {M : Type 1} → statement M
-rhs-field-spec = tie.close (tie.spec match-rhs-requires front-field-requires same-length returns)
+rhs-field-spec = tie.close (tie.spec match-rhs-requires written-field-requires same-length returns)

@@ -2,12 +2,13 @@
 //! neither Rust nor the crate is at hand. ../README.md has the format.
 
 mod groups;
+mod pairs;
 
 use cases::{Random, SPEC_LIMIT, around_the_limit, good, grown, short_text, short_texts};
 use oracle::{Answer, Side};
 use std::{collections::BTreeSet, fs, process::ExitCode};
 
-const USAGE: &str = "usage: recorder [--groups] [--check] FILE";
+const USAGE: &str = "usage: recorder [--groups | --pairs] [--check] FILE";
 
 /// All texts of up to two of these bytes are recorded.
 const TELLING: &[u8] = b"a*:+^/.@{~]H";
@@ -27,12 +28,17 @@ fn main() -> ExitCode {
     let words: Vec<String> = std::env::args().skip(1).collect();
     let mut words: Vec<&str> = words.iter().map(String::as_str).collect();
     let mut asked = |word| words.first() == Some(&word) && words.remove(0) == word;
-    let (groups, check) = (asked("--groups"), asked("--check"));
-    let ([file], false) = (&words[..], words.iter().any(|word| word.starts_with('-'))) else {
+    let (groups, pairs, check) = (asked("--groups"), asked("--pairs"), asked("--check"));
+    let ([file], false) = (&words[..], groups && pairs || words.iter().any(|word| word.starts_with('-')))
+    else {
         eprintln!("{USAGE}");
         return ExitCode::from(2);
     };
-    let records = if groups { groups::records() } else { records() };
+    let records = match (groups, pairs) {
+        (true, _) => groups::records(),
+        (_, true) => pairs::records(),
+        _ => records(),
+    };
     let bytes = list(&records);
     if check {
         let same = fs::read(file).is_ok_and(|found| found == bytes);

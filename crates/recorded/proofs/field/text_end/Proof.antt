@@ -1,8 +1,8 @@
 -- `text_end` meets its contract: two bytes of length, and that many bytes, are the sized text. Assumes nothing.
-use Rattle.recorded_groups.proofs.Fields.{text-none, text-cut, text-stands}
+use Rattle.recorded.proofs.Texts.{text-none, text-cut, text-stands}
 use borrow.Author.Needs.{needs}
-use Rattle.recorded_groups.proofs.text_end.Statement.{statement}
-use Rattle.recorded_groups.proofs.text_end.Tie as tie
+use Rattle.recorded.proofs.field.text_end.Statement.{statement}
+use Rattle.recorded.proofs.field.text_end.Tie as tie
 
 sub-if1 : tie.Need-sub-if1
 sub-if1 c = search needs

@@ -1,0 +1,2 @@
+-- `PairRecord`: what the record of two specs is.
+pub mod PairRecord
