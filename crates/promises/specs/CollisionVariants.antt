@@ -2,20 +2,18 @@
 use Prim.Native.Nat.{_≤_}
 use mathlib.Core.Path.{_≡_}
 use mathlib.Core.Bool.{true}
-use mathlib.Core.List.{List, []}
+use mathlib.Core.List.{[]}
 use mathlib.Core.Option.{none, some}
 use lib.ListN.{length}
-use Rattle.meaning.specs.Bytes.{Text, _and_, _or_, begins, ends, In}
+use Rattle.meaning.specs.Bytes.{Text, _and_, _or_, begins, ends}
 use Rattle.meaning.specs.Limits.{nameBytes}
 use Rattle.meaning.specs.Names.{namePasses}
 use Rattle.meaning.specs.Spec.{accepted, Spec}
-use Rattle.meaning.specs.Rows.{Row}
 use Rattle.meaning.specs.Match.{literal, pattern, formOf, completed, mapped, forward}
 use Rattle.meaning.specs.Listing.{reverseRows}
-use Rattle.meaning.specs.View.{nth}
 use Rattle.meaning.specs.Collide.{collision, collide, collideBytes}
 use Rattle.promises.specs.Terms.{MaybeCall, MetMaybe}
-use Rattle.promises.specs.Collisions.{WrittenTo, TwoSpecs}
+use Rattle.promises.specs.Collisions.{WrittenTo, TwoSpecs, NoneIn}
 
 -- What is written
 
@@ -106,18 +104,7 @@ StartsAreEnough =
 
 -- after a no, no reverse listing has a row of the one and a row of the other with one destination either
 abbrev pub NoInReverseListing : Type 0
-NoInReverseListing =
-    (t u : Text) (s r : Spec)
-    → TwoSpecs t u s r
-    → collide t u ≡ accepted none
-    → (group : List Spec) (names : List Text) (q p : Row) (d : Text)
-    → In q (reverseRows group names)
-    → In p (reverseRows group names)
-    → nth group (q .spec) ≡ some s
-    → nth group (p .spec) ≡ some r
-    → q .destination ≡ some d
-    → p .destination ≡ some d
-    → ⊥
+NoInReverseListing = NoneIn reverseRows
 
 -- The order
 

@@ -115,21 +115,24 @@ WrittenIsListed =
     → WrittenTo s d ↔ ((names : List Text) × (r : Row) × In r (forwardRows (s ∷ []) names) × (r .destination ≡ some d))
 
 -- "Carriers send specs before any branch exists, and validation sees only today's items."
--- After a no, whatever the group that holds both specs and whatever the items, no row of the one and row of the other in the forward
--- listing have one destination. In reverse a literal is not completed, so there it would be false: NoInReverseListing.
-abbrev pub NoInAnyListing : Type 0
-NoInAnyListing =
+-- After a no, whatever the group that holds both specs and whatever the items, no row of the one and row of the other in a listing have
+-- one destination. Of forward listings this is so. In reverse a literal is not completed, so there it would be false: NoInReverseListing.
+abbrev pub NoneIn : (List Spec → List Text → List Row) → Type 0
+NoneIn listing =
     (t u : Text) (s r : Spec)
     → TwoSpecs t u s r
     → collide t u ≡ accepted none
     → (group : List Spec) (names : List Text) (q p : Row) (d : Text)
-    → In q (forwardRows group names)
-    → In p (forwardRows group names)
+    → In q (listing group names)
+    → In p (listing group names)
     → nth group (q .spec) ≡ some s
     → nth group (p .spec) ≡ some r
     → q .destination ≡ some d
     → p .destination ≡ some d
     → ⊥
+
+abbrev pub NoInAnyListing : Type 0
+NoInAnyListing = NoneIn forwardRows
 
 -- "The names may be any bytes of any length [..]."
 -- Where the texts of the specs are byte strings, so are the destination of a yes and the names that are written to it. A no speaks of
