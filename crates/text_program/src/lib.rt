@@ -1,7 +1,9 @@
 //! What the programs that read a text file have in common: the text is read, its first refused line is told, numbers and texts are printed.
+ghost use mathlib.Core.Path.{_≡_};
 ghost use Prim.Native.Nat.{_≤_};
 ghost use lib.ListN.{length};
 ghost use Rattle.meaning.specs.Limits.{specListBytes, itemListBytes, programBytes};
+ghost use Rattle.refused_line.specs.Message.{refusedLine};
 ghost use Rattle.text_lists.specs.Gather.{gathered};
 ghost use Rattle.text_lists.specs.Growing.{Gathers};
 ghost use Rattle.text_program.specs.Texts.{TextWithin};
@@ -46,13 +48,15 @@ pub fn read_text(buffer: &mut [u8]) -> Input
     }
 }
 
-// Tells which line is refused, and why.
-pub fn tell_refused(number: usize, reason: u64, line: &[u8])
+// Tells which line is refused, and why, and answers how many bytes are told.
+pub fn tell_refused(number: usize, reason: u64, line: &[u8]) -> usize
     requires { ⌜ length (now line) ≤ programBytes ⌝ }
+    ensures { λ r. ⌜ r ≡ length (refusedLine number reason (now (line .entry))) ⌝ }
 {
     let mut out = [0u8; MESSAGE_ROOM];
     let n = put_refused(&mut out, number, reason, line);
     tell(&out[..n]);
+    n
 }
 
 // The lists that the lines of a text give, as `gather` writes them; the line that is refused is told.
