@@ -1,20 +1,21 @@
 -- What an accepted spec is, by the questions that it passed. Assumes nothing.
 use mathlib.Core.Path.{_≡_, refl, sym, ap}
-use mathlib.Core.Bool.{Bool, true, false, not, cond, false≢true}
+use mathlib.Core.Bool.{Bool, true, false, not, false≢true}
 use mathlib.Core.List.{[], _∷_}
 use mathlib.Core.Option.{Option, none, some}
 use Prim.Native.Nat.{ℕ, zero, suc, _≤_, _<_}
 use native.Mathlib.Omega.{arith}
 use borrow.Author.Tests.{leb-true, eqb-false, not-true}
-use lib.Dec.{eqb, leb, lit<}
+use lib.Dec.{leb, lit<}
 use lib.ListN.{length}
-use Rattle.meaning.specs.Bytes.{Text, bytes, _and_, _or_, agree, empty, same, given, present, absent, ifGiven}
+use Rattle.meaning.specs.Bytes.{Text, _and_, _or_, agree, empty, given, present, absent, ifGiven}
 use Rattle.meaning.specs.Limits.{specBytes}
 use Rattle.meaning.specs.Names.{sidePasses}
-use Rattle.meaning.specs.Spec.{accepted, _else_then_, Mode, Normal, Force, Negative, Spec, isNegative, push, modeOf, unsigned, Sides, one, two, sidesOf, hasColon, left, right, supplied, named, sourceOf, specFrom, specOf, hasStar, atMostOneStar, exempt, notHashLike, starsAgree, sidesRefusal, specRefusal, unless, readSpec}
+use Rattle.meaning.specs.Spec.{accepted, _else_then_, Mode, Normal, Force, Negative, Spec, isNegative, push, modeOf, unsigned, Sides, one, two, sidesOf, hasColon, left, right, supplied, sourceOf, specFrom, specOf, hasStar, atMostOneStar, exempt, notHashLike, starsAgree, sidesRefusal, specRefusal, unless, readSpec}
 use Rattle.meaning.specs.Instruction.{instruction, fetchInstruction, pushExclude}
 use Rattle.promises.specs.Accepted.{AcceptedSpec, ReadIsAccepted, ColonHasDestination, GroupIsAccepted, InstructionsOfSides}
 use Rattle.promises.proofs.Members.{group-texts}
+use Rattle.promises.proofs.Sourced.{source-filled, left-source}
 
 -- a question that did not refuse was answered yes, and the later ones did not refuse
 pub asked : (b : Bool) (n rest : ℕ) → 0 < n → (b else n then rest) ≡ 0 → (b ≡ true) × (rest ≡ 0)
@@ -78,7 +79,7 @@ read-passed op t s e =
 -- the sides that a text gives
 
 -- an operation that is no push is fetch
-fetch-is : (op : ℕ) → op ≤ 1 → push op ≡ false → op ≡ 0
+pub fetch-is : (op : ℕ) → op ≤ 1 → push op ≡ false → op ≡ 0
 fetch-is op h e = let n : op ≡ 1 → ⊥ = eqb-false op 1 e in omega arith
 
 -- a fetch has a source, if a negative has one
@@ -88,25 +89,6 @@ fetch-has op m (x ∷ l) h e = refl
 fetch-has op Normal [] h e = rw h
 fetch-has op Force [] h e = rw h
 fetch-has op Negative [] h e = e
-
--- a name that stands for a source is not empty
-named-filled : (x : ℕ) (l : Text) → named (x ∷ l) ≡ [] → ⊥
-unfolding named
-named-filled x l e = go (same (x ∷ l) (bytes "@")) e
-  where
-    go : (b : Bool) → cond b (bytes "HEAD") (x ∷ l) ≡ [] → ⊥
-    go true p = let z : _≡_ {A = ℕ} 0 1 = cc in omega arith
-    go false p = let z : _≡_ {A = ℕ} 0 1 = cc in omega arith
-
--- a source is not empty
-source-not-empty : (op : ℕ) (m : Mode) (l : Text) → sourceOf op m l ≡ some [] → ⊥
-unfolding supplied
-source-not-empty op m (x ∷ l) e = let z : named (x ∷ l) ≡ [] = cc in named-filled x l z
-source-not-empty op m [] e = go (eqb op 0 and not (isNegative m)) e
-  where
-    go : (b : Bool) → cond b (some (bytes "HEAD")) none ≡ some [] → ⊥
-    go true p = let z : _≡_ {A = ℕ} 0 1 = cc in omega arith
-    go false p = let z : _≡_ {A = ℕ} 0 1 = cc in omega arith
 
 -- a destination is not empty
 given-not-empty : (t : Text) → given t ≡ some [] → ⊥
@@ -161,7 +143,7 @@ accepted-of op t h p =
       fetch-source = λ e. fetch-has op (modeOf t) (left (sidesOf (unsigned t))) (fetch-is op h e) (p .ten);
       negative-source = λ n. rw n at (p .ten);
       negative-alone = alone;
-      source-filled = source-not-empty op (modeOf t) (left (sidesOf (unsigned t)));
+      source-filled = λ e. source-filled (left-source op (modeOf t) (left (sidesOf (unsigned t))) [] e);
       destination-filled = given-not-empty (right (sidesOf (unsigned t)));
       source-star = p .five;
       destination-star = p .seven;

@@ -10,7 +10,7 @@ use lib.Dec.{lit≤, lit<}
 use lib.ListN.{length, drop}
 use lib.Seq.{take-append-seam}
 use Rattle.meaning.specs.Bytes.{Text, bytes, each, here, there}
-use Rattle.meaning.specs.Spec.{Answer, accepted, refused, Normal, Force, Spec}
+use Rattle.meaning.specs.Spec.{Answer, accepted, Normal, Force, Spec}
 use Rattle.meaning.specs.Buffers.{Outputs}
 use Rattle.meaning.specs.Number.{recordBytes}
 use Rattle.meaning.specs.Rows.{Row, rowListOf}
@@ -24,26 +24,23 @@ use Rattle.promises.specs.CallVariants.{ReadThoughRefused, ConflictsTold
 use Rattle.promises.proofs.Laws.{in-none, same-eq}
 use Rattle.promises.proofs.Buffers.{meets-short, meets-written, meets-two-refused, meets-two-short-first, meets-two-conflicts, meets-two-passes}
 use Rattle.promises.proofs.Fitting.{rows-answered}
+use Rattle.promises.proofs.Refusals.{refused-accepted}
 use Rattle.promises.proofs.Variants.{false-variants}
-
--- what is refused is not accepted
-refused-accepted : {A : Type 0} {n : ℕ} {r : Option ℕ} {a : A} → refused n r ≡ accepted a → ⊥
-refused-accepted e = let z : _≡_ {A = ℕ} 0 1 = cc in omega arith
 
 -- calls
 
 -- one that writes b over the front of its buffer
-abbrev writing : Text → Text → OneCall
+abbrev pub writing : Text → Text → OneCall
 writing b before = record { before = before; after = b ++ drop (length b) before; refusal = 0; recordNumber = 0; size = length b }
 
-writing-met : (a : Answer Outputs) (b before : Text) → a ≡ accepted (some b ∷ []) → length b ≤ length before → MetOne a (writing b before)
+pub writing-met : (a : Answer Outputs) (b before : Text) → a ≡ accepted (some b ∷ []) → length b ≤ length before → MetOne a (writing b before)
 writing-met a b before e h = meets-written a before _ b 0 0 (length b) e h refl refl refl refl
 
 -- one whose buffer has no byte, which b needs
-abbrev shortOf : Text → OneCall
+abbrev pub shortOf : Text → OneCall
 shortOf b = record { before = []; after = []; refusal = 17; recordNumber = 0; size = length b }
 
-short-met : (a : Answer Outputs) (b : Text) → a ≡ accepted (some b ∷ []) → 0 < length b → MetOne a (shortOf b)
+pub short-met : (a : Answer Outputs) (b : Text) → a ≡ accepted (some b ∷ []) → 0 < length b → MetOne a (shortOf b)
 short-met a b e h = meets-short a [] [] b 17 0 (length b) e h refl refl refl refl
 
 -- one that writes conflicts over a buffer of those bytes

@@ -1,14 +1,14 @@
 -- A side that passes the name rules has no colon, no sign of a negative, and is not `@`. Assumes nothing.
 use mathlib.Core.Path.{_≡_, refl, sym, _∙_}
 use mathlib.Core.Bool.{Bool, true, false, not, cond, true≢false, false≢true}
-use mathlib.Core.List.{[], _∷_, _++_}
+use mathlib.Core.List.{[], _∷_}
 use mathlib.Core.Option.{some}
 use Prim.Native.Nat.{ℕ, _+_}
 use borrow.Author.Tests.{eqb-true, not-true}
 use lib.Dec.{eqb}
 use Rattle.meaning.specs.Bytes.{Text, bytes, star, plus, colon, caret, _and_, every, empty, same, begins, hasByte, given}
 use Rattle.meaning.specs.Names.{noControls, ruleFourByte, notAt, partsPass, noTwoDots, noGlobs, slashesPass, noLastDot, noAtBrace, noBackslash, namePasses, starAsLetter, sidePasses}
-use Rattle.meaning.specs.Spec.{Mode, Normal, modeOfByte, modeOf, unsigned, named, sourceOf}
+use Rattle.meaning.specs.Spec.{Normal, modeOfByte, modeOf}
 use Rattle.promises.proofs.Laws.{and-left, and-right, or-none, same-is}
 
 -- what a side that passes the name rules is: not empty, no colon, no leading `^`, not `@`
@@ -77,11 +77,6 @@ side-clean (x ∷ t) e =
     let no-caret = four-bytes caret refl refl (x ∷ t) c in
     clean x t (or-none (eqb caret x) (hasByte caret t) no-caret .0) (four-bytes colon refl refl (x ∷ t) c) (at-alone (x ∷ t) (name-not-at (starAsLetter (x ∷ t)) e))
 
--- a clean source is itself
-pub source-self : (op : ℕ) (m : Mode) (t : Text) → Clean t → sourceOf op m t ≡ some t
-unfolding named
-source-self op m t (clean x u a b c) = rw c
-
 -- a clean destination is there
 pub given-self : (t : Text) → Clean t → given t ≡ some t
 given-self t (clean x u a b c) = refl
@@ -98,7 +93,7 @@ plus-first x u e = go (eqb plus x) e
     go true p = absurd (true≢false p)
     go false p = refl
 
--- what begins with a clean source, and not with `+`, has no sign
-pub no-sign : (t rest : Text) → Clean t → begins (bytes "+") t ≡ false → (modeOf (t ++ rest) ≡ Normal) × (unsigned (t ++ rest) ≡ t ++ rest)
+-- a clean side that does not begin with `+` has no sign
+pub clean-normal : (t : Text) → Clean t → begins (bytes "+") t ≡ false → modeOf t ≡ Normal
 unfolding modeOfByte
-no-sign t rest (clean x u a b c) e = let p : eqb plus x ≡ false = plus-first x u e in (rw (a, p), rw (a, p))
+clean-normal t (clean x u a b c) e = rw (a, plus-first x u e)

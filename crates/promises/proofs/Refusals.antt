@@ -4,7 +4,7 @@ use native.Mathlib.Omega.{arith}
 use mathlib.Core.Path.{_≡_, refl}
 use mathlib.Core.Bool.{Bool, true, false, cond}
 use mathlib.Core.List.{List, [], _∷_}
-use mathlib.Core.Option.{none}
+use mathlib.Core.Option.{Option, none}
 use lib.Dec.{eqb, leb, ltb}
 use lib.ListN.{length}
 use Rattle.meaning.specs.Bytes.{Text}
@@ -156,10 +156,14 @@ and-above : {A B : Type 0} (a : Answer A) (f : A → Answer B) → Above a → (
 and-above (accepted a) f p q = q a
 and-above (refused n r) f p q = p
 
+-- what is refused is not accepted
+pub refused-accepted : {A : Type 0} {n : ℕ} {r : Option ℕ} {a : A} → refused n r ≡ accepted a → ⊥
+refused-accepted e = let z : _≡_ {A = ℕ} 0 1 = cc in omega arith
+
 -- what was accepted went on from what was accepted
 pub and-accepted : {A B : Type 0} (a : Answer A) (f : A → Answer B) {b : B} → (a andThen f) ≡ accepted b → (x : A) × (a ≡ accepted x) × (f x ≡ accepted b)
 and-accepted (accepted a) f e = (a, refl, e)
-and-accepted (refused n r) f e = absurd (let z : _≡_ {A = ℕ} 0 1 = cc in omega arith)
+and-accepted (refused n r) f e = absurd (refused-accepted e)
 
 pub to-bstring-above : (op : ℕ) (t : Text) → Above (toBstring op t)
 unfolding toBstring

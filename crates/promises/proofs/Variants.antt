@@ -25,10 +25,7 @@ use Rattle.promises.proofs.Laws.{or-right, in-none, in-cons, same-eq, e
 use Rattle.promises.proofs.Captures.{capture-fill}
 use Rattle.promises.proofs.Members.{specs-written, specs-long, rows-long}
 use Rattle.promises.proofs.ReadBack.{row-length}
-
--- what is refused is not accepted
-refused-accepted : {A : Type 0} {n : ℕ} {r : Option ℕ} {a : A} → refused n r ≡ accepted a → ⊥
-refused-accepted e = let z : _≡_ {A = ℕ} 0 1 = cc in omega arith
+use Rattle.promises.proofs.Refusals.{refused-accepted}
 
 -- a spec, written short
 abbrev spec : Mode → Text → Option Text → Spec

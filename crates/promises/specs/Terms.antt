@@ -7,11 +7,11 @@ use mathlib.Core.List.{List, [], _∷_, map}
 use mathlib.Core.Option.{Option, none, some}
 use lib.Dec.{leb}
 use lib.ListN.{length, take, drop}
-use Rattle.meaning.specs.Bytes.{Text, bytes, _and_, _or_, keep, each, begins, present, orEmpty, In}
+use Rattle.meaning.specs.Bytes.{Text, bytes, _and_, _or_, keep, each, begins, In}
 use Rattle.meaning.specs.Limits.{specBytes}
-use Rattle.meaning.specs.Spec.{Answer, accepted, Spec, isNegative, starred}
+use Rattle.meaning.specs.Spec.{Answer, accepted, Spec, starred}
 use Rattle.meaning.specs.Buffers.{Outputs, LengthBeside, MeetsOne, MeetsMaybe, MeetsTwo}
-use Rattle.meaning.specs.Instruction.{canonicalText}
+use Rattle.meaning.specs.Instruction.{Instruction, fetchOnly, fetchExclude, fetchAndUpdate, pushAllMatchingBranches, pushDelete, pushMatching, pushExclude, instruction, canonicalText}
 use Rattle.meaning.specs.Number.{recordBytes}
 use Rattle.meaning.specs.Lists.{readSpecs, readItems}
 use Rattle.meaning.specs.Rows.{Row, rowListOf, readRows}
@@ -72,9 +72,19 @@ canonicalList group = recordBytes (canonicalTexts group)
 unfoldable pub textFits : Spec → Bool
 textFits s = leb (length (canonicalText 0 s)) specBytes
 
--- the spec is not fetch-only with a source that begins with `+`
+-- fetch-only, with a source that begins with `+`
+abbrev pub plusOnly : Instruction → Bool
+plusOnly (fetchOnly src) = begins (bytes "+") src
+plusOnly (fetchExclude src) = false
+plusOnly (fetchAndUpdate src dst force) = false
+plusOnly (pushAllMatchingBranches force) = false
+plusOnly (pushDelete dst) = false
+plusOnly (pushMatching src dst force) = false
+plusOnly (pushExclude src) = false
+
+-- a fetch spec that is not so
 unfoldable pub noPlus : Spec → Bool
-noPlus s = isNegative (s .mode) or present (s .destination) or not (begins (bytes "+") (orEmpty (s .source)))
+noPlus s = not (plusOnly (instruction 0 s))
 
 -- two groups and their spec lists have the same forward rows, reverse rows, conflicts, kept rows and fixes, whatever the items and
 -- rows, and so the entries answer the same
