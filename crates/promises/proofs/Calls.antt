@@ -5,21 +5,19 @@ use mathlib.Core.Path.{_≡_, refl, ap}
 use mathlib.Core.Logic.{_↔_, _⊎_, inl, inr}
 use mathlib.Core.Bool.{Bool, true, false, cond}
 use mathlib.Core.List.{List, [], _∷_, _++_, map}
-use mathlib.Core.Option.{some}
 use borrow.Author.Tests.{leb-true, leb-false}
 use lib.Dec.{leb}
 use lib.ListN.{length, length-append}
 use Rattle.meaning.specs.Bytes.{Text, keep, each, In, here}
 use Rattle.meaning.specs.Limits.{rowListBytes}
-use Rattle.meaning.specs.Spec.{Answer, accepted, refused, Spec, readSpec}
+use Rattle.meaning.specs.Spec.{accepted, Spec}
 use Rattle.meaning.specs.Buffers.{Outputs}
-use Rattle.meaning.specs.Instruction.{canonicalText}
 use Rattle.meaning.specs.Number.{recordBytes}
 use Rattle.meaning.specs.Lists.{readSpecs, readItems}
 use Rattle.meaning.specs.Rows.{Row, rowBytes, rowListOf, readRows}
 use Rattle.meaning.specs.Listing.{forwardRows, reverseRows}
 use Rattle.meaning.specs.Validation.{Conflict, conflictOn, conflicts, conflictBytes, isKept, fixOf, fixBytes, passing, passUnless, verdict}
-use Rattle.meaning.specs.Entries.{verdictBytes, toBstring, matchLhs, matchRhs, verdictOn, validated}
+use Rattle.meaning.specs.Entries.{verdictBytes, matchLhs, matchRhs, verdictOn, validated}
 use Rattle.promises.specs.Terms.{TwoSources, canonicalTexts, OneCall, MetOne, bytesOf, CallOnEach, TwoCall, MetTwo, Leaves, TellsConflicts, TellsPass, ReadsItems, ReadsRows}
 use Rattle.promises.specs.Calls.{UnlessRefused, ConflictsTold, ListingsTold, MapBackTold, CanonicalTold}
 use Rattle.promises.proofs.Laws.{keep-in}
@@ -31,23 +29,11 @@ use Rattle.promises.proofs.Canonical.{canonical-texts-change-nothing}
 use Rattle.promises.proofs.Fitting.{rows-answered}
 use Rattle.promises.specs.Facts.{EachRead}
 use Rattle.promises.proofs.Texts.{specs-texts}
-use Rattle.promises.proofs.Leaving.{one-leaves, two-conflicts, two-passes}
-use Rattle.promises.proofs.Refusals.{Above, and-accepted, to-bstring-above, match-lhs-above, match-rhs-above, validated-above}
+use Rattle.promises.proofs.Leaving.{one-accepted, two-accepted, same-one, same-two, one-leaves, two-conflicts, two-passes}
+use Rattle.promises.proofs.Refusals.{and-accepted, match-lhs-above, match-rhs-above, validated-above}
+use Rattle.promises.proofs.KeyCalls.{text-leaves, key-told}
 
 -- unless refused
-
--- a call that tells no refusal has an answer that is accepted
-one-accepted : (a : Answer Outputs) (c : OneCall) → Above a → MetOne a c → c .refusal ≡ 0 → (w : Outputs) × (a ≡ accepted w)
-one-accepted (accepted w) c h m z = (w, refl)
-one-accepted (refused n r) c h m z = absurd (omega (arith, m .meets .tells .refusal-is, m .refusal-is))
-
-two-accepted : (a : Answer Outputs) (c : TwoCall) → Above a → MetTwo a c → c .refusal ≡ 0 → (w : Outputs) × (a ≡ accepted w)
-two-accepted (accepted w) c h m z = (w, refl)
-two-accepted (refused n r) c h m z = absurd (omega (arith, m .meets .tells .refusal-is, m .refusal-is))
-
-read-spec : (t : Text) (w : Outputs) → toBstring 0 t ≡ accepted w → (s : Spec) × (readSpec 0 t ≡ accepted s)
-unfolding toBstring
-read-spec t w e = let x = and-accepted (readSpec 0 t) _ e in (x .0, x .1)
 
 read-lhs : (specs items : Text) (w : Outputs) → matchLhs 0 specs items ≡ accepted w → ReadsItems specs items
 unfolding matchLhs
@@ -73,7 +59,7 @@ read-validated specs list w e =
 
 pub unless-refused : UnlessRefused
 unless-refused = (
-  λ t c m z. let w = one-accepted (toBstring 0 t) c (to-bstring-above 0 t) m z in read-spec t (w .0) (w .1),
+  λ t c m z. let k = key-told 0 t c m z in (k .0, k .1),
   λ specs items c m z. let w = one-accepted (matchLhs 0 specs items) c (match-lhs-above 0 specs items) m z in read-lhs specs items (w .0) (w .1),
   λ specs items c m z. let w = one-accepted (matchRhs 0 specs items) c (match-rhs-above 0 specs items) m z in read-rhs specs items (w .0) (w .1),
   λ specs list c m z. let w = two-accepted (validated 0 specs list) c (validated-above 0 specs list) m z in read-validated specs list (w .0) (w .1),
@@ -187,21 +173,6 @@ map-back-told specs items others group names otherNames there c back e f g rever
 
 -- canonical texts told
 
--- a call meets an answer exactly when it meets an equal one
-same-one : {a b : Answer Outputs} → a ≡ b → (c : OneCall) → MetOne a c ↔ MetOne b c
-same-one e c = ((λ m. rw (← e) m), (λ m. rw e m))
-
-same-two : {a b : Answer Outputs} → a ≡ b → (c : TwoCall) → MetTwo a c ↔ MetTwo b c
-same-two e c = ((λ m. rw (← e) m), (λ m. rw e m))
-
-text-is : (t : Text) (s : Spec) → readSpec 0 t ≡ accepted s → toBstring 0 t ≡ accepted (some (canonicalText 0 s) ∷ [])
-unfolding toBstring
-text-is t s e = rw e
-
--- what a call for the canonical text leaves
-text-leaves : (t : Text) (s : Spec) (c : OneCall) → readSpec 0 t ≡ accepted s → MetOne (toBstring 0 t) c → c .refusal ≡ 0 → Leaves (c .before) (c .after) (canonicalText 0 s) (c .size)
-text-leaves t s c e m z = one-leaves (toBstring 0 t) (canonicalText 0 s) c (text-is t s e) m z
-
 -- what such calls answer, in order
 texts-answered : (texts : List Text) (group : List Spec) (calls : List OneCall) → EachRead 0 texts group → CallOnEach texts calls → map bytesOf calls ≡ canonicalTexts group
 texts-answered [] [] [] r m = refl
@@ -209,11 +180,11 @@ texts-answered [] [] (c ∷ calls) r m = elim m [ ]
 texts-answered [] (s ∷ group) calls r m = elim r [ ]
 texts-answered (t ∷ texts) [] calls r m = elim r [ ]
 texts-answered (t ∷ texts) (s ∷ group) [] r m = elim m [ ]
-texts-answered (t ∷ texts) (s ∷ group) (c ∷ calls) r m = rw (text-leaves t s c (r .0) (m .0) (m .1) .front, texts-answered texts group calls (r .1) (m .2))
+texts-answered (t ∷ texts) (s ∷ group) (c ∷ calls) r m = rw (text-leaves 0 t s c (r .0) (m .0) (m .1) .front, texts-answered texts group calls (r .1) (m .2))
 
 pub canonical-told : CanonicalTold
 canonical-told = (
-  text-leaves,
+  text-leaves 0,
   λ texts group calls e m. ap recordBytes (texts-answered texts group calls (specs-texts texts group e) m),
   λ specs group e fit short plus.
       let k = canonical-texts-change-nothing specs group e fit short plus .2 in

@@ -1,10 +1,10 @@
--- What a call that tells no refusal leaves in its buffers. Assumes nothing.
+-- Which answer a call meets, and what it leaves in its buffers where it tells no refusal. Assumes nothing.
 use Prim.Native.Nat.{ℕ, _≤_}
 use native.Mathlib.Omega.{arith}
 use mathlib.Core.Path.{_≡_, refl, ap, _∙_}
 use mathlib.Core.Bool.{Bool, true, false, cond}
 use mathlib.Core.List.{List, [], _∷_, _++_}
-use mathlib.Core.Logic.{_⊎_, inl, inr}
+use mathlib.Core.Logic.{_↔_, _⊎_, inl, inr}
 use mathlib.Core.Option.{Option, none, some}
 use borrow.Author.Tests.{leb-true, leb-false}
 use lib.Dec.{leb}
@@ -13,7 +13,24 @@ use lib.Seq.{take-append-seam, drop-append-seam}
 use Rattle.meaning.specs.Bytes.{Text}
 use Rattle.meaning.specs.Spec.{Answer, accepted, refused}
 use Rattle.meaning.specs.Buffers.{Outputs, short, writes, buffersAfter, Tells, Meets, orZero}
+use Rattle.promises.proofs.Refusals.{Above}
 use Rattle.promises.specs.Terms.{OneCall, MetOne, TwoCall, MetTwo, Leaves, MaybeCall, MetMaybe, TellsAlone, TellsBytes, TellsShort}
+
+-- a call meets an answer exactly when it meets an equal one
+pub same-one : {a b : Answer Outputs} → a ≡ b → (c : OneCall) → MetOne a c ↔ MetOne b c
+same-one e c = ((λ m. rw (← e) m), (λ m. rw e m))
+
+pub same-two : {a b : Answer Outputs} → a ≡ b → (c : TwoCall) → MetTwo a c ↔ MetTwo b c
+same-two e c = ((λ m. rw (← e) m), (λ m. rw e m))
+
+-- a call that tells no refusal has an answer that is accepted
+pub one-accepted : (a : Answer Outputs) (c : OneCall) → Above a → MetOne a c → c .refusal ≡ 0 → (w : Outputs) × (a ≡ accepted w)
+one-accepted (accepted w) c h m z = (w, refl)
+one-accepted (refused n r) c h m z = absurd (omega (arith, m .meets .tells .refusal-is, m .refusal-is))
+
+pub two-accepted : (a : Answer Outputs) (c : TwoCall) → Above a → MetTwo a c → c .refusal ≡ 0 → (w : Outputs) × (a ≡ accepted w)
+two-accepted (accepted w) c h m z = (w, refl)
+two-accepted (refused n r) c h m z = absurd (omega (arith, m .meets .tells .refusal-is, m .refusal-is))
 
 -- bytes over the front of a buffer
 over-front : (before after part : Text) (size : ℕ) → length part ≤ length before → after ≡ part ++ drop (length part) before → size ≡ length part → Leaves before after part size
@@ -46,6 +63,11 @@ one-leaves a b c e m z =
     go : (x : Bool) → leb (length b) (length (c .before)) ≡ x → c .after ∷ [] ≡ buffersAfter (cond x (writes (some b ∷ [])) (short 1 (length b))) (c .before ∷ []) → Tells (cond x (writes (some b ∷ [])) (short 1 (length b))) (m .told) → Leaves (c .before) (c .after) b (c .size)
     go true x p t = over-front (c .before) (c .after) b (c .size) (leb-true _ _ x) (ap firstIn p) (rw (t .lengths-are) at (m .size-is))
     go false x p t = absurd (omega (arith, t .refusal-is, m .refusal-is))
+
+-- after a refusal
+pub one-turned : (n : ℕ) (k : Option ℕ) (c : OneCall) → MetOne (refused n k) c → (c .refusal ≡ n) × (c .after ≡ c .before)
+unfolding firstIn
+one-turned n k c m = (m .refusal-is ∙ m .meets .tells .refusal-is, ap firstIn (m .meets .buffers-are))
 
 -- one buffer that may be left alone
 

@@ -1,0 +1,139 @@
+-- Canonical texts are keys: document 02, W13. A text tells its instruction, so equal texts have equal instructions. Assumes nothing.
+use mathlib.Core.Path.{_≡_, refl, sym, ap, _∙_}
+use mathlib.Core.Bool.{Bool, true, false, not, cond, false≢true}
+use mathlib.Core.List.{[], _∷_, _++_}
+use Prim.Native.Nat.{ℕ}
+use native.Mathlib.Omega.{arith}
+use borrow.Author.Tests.{le-leb, lt-leb, eqb-true}
+use lib.Dec.{eqb}
+use lib.ListN.{length}
+use Rattle.meaning.specs.Bytes.{Text, bytes, plus, colon, _and_, same, begins, hasByte, orEmpty}
+use Rattle.meaning.specs.Limits.{specBytes}
+use Rattle.meaning.specs.Spec.{accepted, Force, modeOfByte, supplied, named, sourceOf, specFrom, specOf, specRefusal, readSpec}
+use Rattle.meaning.specs.Instruction.{Instruction, fetchOnly, fetchExclude, fetchAndUpdate, pushAllMatchingBranches, pushDelete, pushMatching, pushExclude, instruction, instructionText, canonicalText}
+use Rattle.meaning.specs.Entries.{instructed, toBstring}
+use Rattle.promises.specs.Terms.{plusOnly}
+use Rattle.promises.specs.Keys.{EveryAcceptedHasKey, KeysExactly, KeysReadBack, LongKeysRefused, PlusNeverReadsBack}
+use Rattle.promises.proofs.Laws.{and-left, or-right}
+use Rattle.promises.proofs.Splitting.{sides-one}
+use Rattle.promises.proofs.Accepted.{read-passed, read-is-accepted}
+use Rattle.promises.proofs.Refusals.{and-accepted}
+use Rattle.promises.proofs.Clean.{Clean, clean-colon}
+use Rattle.promises.proofs.Plain.{Fine, fine-means, fine-back, readable, text-back}
+
+-- every accepted spec has its instruction and its key
+pub every-accepted-has-key : EveryAcceptedHasKey
+unfolding instructed toBstring
+every-accepted-has-key op t s e = (rw e, rw e)
+
+-- A text tells its instruction
+
+-- a fetch text with `+` and no colon is fetch-only itself; any other has the instruction of what it means
+abbrev toldBy : ℕ → Text → Instruction
+toldBy op key = cond (eqb op 0 and not (hasByte colon key) and begins (bytes "+") key) (fetchOnly key) (instruction op (specOf op key))
+
+-- a text with a colon has it
+has-colon : (s t : Text) → hasByte colon (s ++ (colon ∷ t)) ≡ true
+has-colon [] t = refl
+has-colon (x ∷ s) t = or-right (eqb colon x) _ (has-colon s t)
+
+-- which texts are those of fetch-only with `+`
+plus-test : (op : ℕ) (i : Instruction) → Fine op i → (eqb op 0 and not (hasByte colon (instructionText i)) and begins (bytes "+") (instructionText i)) ≡ plusOnly i
+plus-test op (fetchOnly src) h = rw (h .0, clean-colon src (h .1))
+plus-test op (fetchExclude src) h = rw (h .0, clean-colon src (h .1))
+plus-test op (fetchAndUpdate src dst true) h = rw (h .0, has-colon src dst)
+plus-test op (fetchAndUpdate src dst false) h = rw (h .0, has-colon src dst)
+plus-test op (pushAllMatchingBranches force) h = rw h
+plus-test op (pushDelete dst) h = rw (h .0)
+plus-test op (pushMatching src dst force) h = rw (h .0)
+plus-test op (pushExclude src) h = rw (h .0)
+
+-- an instruction that is fetch-only with `+`
+plus-only : (i : Instruction) → plusOnly i ≡ true → (src : Text) × (i ≡ fetchOnly src) × (begins (bytes "+") src ≡ true)
+plus-only (fetchOnly src) e = (src, refl, e)
+plus-only (fetchExclude src) e = absurd (false≢true e)
+plus-only (fetchAndUpdate src dst force) e = absurd (false≢true e)
+plus-only (pushAllMatchingBranches force) e = absurd (false≢true e)
+plus-only (pushDelete dst) e = absurd (false≢true e)
+plus-only (pushMatching src dst force) e = absurd (false≢true e)
+plus-only (pushExclude src) e = absurd (false≢true e)
+
+-- the text of an instruction tells it
+text-tells : (op : ℕ) (i : Instruction) → Fine op i → toldBy op (instructionText i) ≡ i
+text-tells op i h = rw (plus-test op i h) (go (plusOnly i) refl)
+  where
+    go : (b : Bool) → plusOnly i ≡ b → cond b (fetchOnly (instructionText i)) (instruction op (specOf op (instructionText i))) ≡ i
+    go true e = let q = plus-only i e in rw (q .1)
+    go false e = rw (fine-means op i h e) (fine-back op i h)
+
+-- keys are equal exactly if the instructions are
+pub keys-exactly : KeysExactly
+unfolding canonicalText
+keys-exactly op t u s r e f =
+    let a = text-tells op (instruction op s) (readable op t s e .is-fine) in
+    let b = text-tells op (instruction op r) (readable op u r f .is-fine) in
+    ((λ q. sym a ∙ ap (toldBy op) q ∙ b), (λ q. ap instructionText q))
+
+-- Reading back
+
+-- a key that fits is read back, and is its own key
+pub keys-read-back : KeysReadBack
+unfolding canonicalText
+keys-read-back op t s e n b =
+    let q = fine-back op (instruction op s) (readable op t s e .is-fine) in
+    let w = every-accepted-has-key op _ _ (text-back op t s e n b) in
+    rw q at w
+
+-- a longer one is refused
+pub long-keys-refused : LongKeysRefused
+unfolding readSpec specRefusal
+long-keys-refused op t s e n = rw (le-leb op 1 (read-is-accepted op t s e .operation), lt-leb _ specBytes n)
+
+-- Fetch-only with `+` is never read back
+
+-- what follows a `+` is another source
+shorter : (t : Text) → orEmpty (sourceOf 0 Force t) ≡ plus ∷ t → ⊥
+unfolding supplied named
+shorter [] e = let z : _≡_ {A = ℕ} 72 43 = cc in omega arith
+shorter (x ∷ t) e = go (same (x ∷ t) (bytes "@")) e
+  where
+    go : (b : Bool) → cond b (bytes "HEAD") (x ∷ t) ≡ plus ∷ x ∷ t → ⊥
+    go true p = let z : _≡_ {A = ℕ} 72 43 = cc in omega arith
+    go false p = omega (arith, ap length p)
+
+-- a text with `+` and no colon means what follows the `+`
+plus-means : (t : Text) → hasByte colon t ≡ false → instruction 0 (specOf 0 (plus ∷ t)) ≡ fetchOnly (orEmpty (sourceOf 0 Force t))
+unfolding instruction specOf specFrom modeOfByte
+plus-means t h = rw (sides-one t h)
+
+-- a text that begins with `+`
+plus-first : (src : Text) → begins (bytes "+") src ≡ true → (t : Text) × (src ≡ plus ∷ t)
+plus-first [] e = absurd (false≢true e)
+plus-first (x ∷ t) e = let p : plus ≡ x = eqb-true plus x (and-left (eqb plus x) true e) in (t, rw p)
+
+-- so it does not mean itself
+plus-apart : (src : Text) → Clean src → begins (bytes "+") src ≡ true → instruction 0 (specOf 0 src) ≡ fetchOnly src → ⊥
+plus-apart src h b e =
+    let f = plus-first src b in
+    let n : hasByte colon (plus ∷ f .0) ≡ false = rw (f .1) at (clean-colon src h) in
+    let q : fetchOnly (orEmpty (sourceOf 0 Force (f .0))) ≡ fetchOnly (plus ∷ f .0) = sym (plus-means (f .0) n) ∙ (rw (f .1) at e) in
+    shorter (f .0) cc
+
+-- the instruction that a text reads as is that of what it means
+instructed-means : (op : ℕ) (t : Text) (i : Instruction) → instructed op t ≡ accepted i → instruction op (specOf op t) ≡ i
+unfolding instructed
+instructed-means op t i e =
+    let s = and-accepted (readSpec op t) (λ s. accepted (instruction op s)) e in
+    let u : instruction op (s .0) ≡ i = cc (s .2) in
+    ap (instruction op) (read-passed op t (s .0) (s .1) .spec-is) ∙ u
+
+-- the text of a fetch-only with `+` does not mean its instruction
+plus-never : (op : ℕ) (i : Instruction) → Fine op i → plusOnly i ≡ true → instruction op (specOf op (instructionText i)) ≡ i → ⊥
+plus-never op i h b e =
+    let q = plus-only i b in
+    let f : Fine op (fetchOnly (q .0)) = rw (q .1) at h in
+    plus-apart (q .0) (f .1) (q .2) (rw (q .1, f .0) at e)
+
+pub plus-never-reads-back : PlusNeverReadsBack
+unfolding canonicalText
+plus-never-reads-back op t s e b f = plus-never op (instruction op s) (readable op t s e .is-fine) b (instructed-means op _ _ f)

@@ -1,0 +1,181 @@
+-- False variants of document 02, W13: statements near it. FalseKeyVariants says that none of them holds.
+use Prim.Native.Nat.{ℕ, _≤_}
+use mathlib.Core.Path.{_≡_}
+use mathlib.Core.Logic.{_↔_}
+use mathlib.Core.Bool.{Bool, true, false}
+use mathlib.Core.Option.{some}
+use lib.ListN.{length}
+use Rattle.meaning.specs.Bytes.{Text, bytes, begins}
+use Rattle.meaning.specs.Limits.{specBytes}
+use Rattle.meaning.specs.Spec.{accepted, Spec, readSpec}
+use Rattle.meaning.specs.Instruction.{Instruction, fetchAndUpdate, pushAllMatchingBranches, pushMatching, instruction, canonicalText}
+use Rattle.meaning.specs.Entries.{instructed, toBstring}
+use Rattle.promises.specs.Accepted.{AcceptedSpec}
+use Rattle.promises.specs.Terms.{plusOnly, OneCall, MetOne, bytesOf}
+
+-- Equal keys
+
+-- the two specs may be of different operations
+abbrev pub KeysAcrossOperations : Type 0
+KeysAcrossOperations =
+    (op op′ : ℕ) (t u : Text) (s r : Spec)
+    → readSpec op t ≡ accepted s
+    → readSpec op′ u ≡ accepted r
+    → canonicalText op s ≡ canonicalText op′ r
+    → instruction op s ≡ instruction op′ r
+
+-- equal keys are keys of equal specs
+abbrev pub KeysOfEqualSpecs : Type 0
+KeysOfEqualSpecs =
+    (op : ℕ) (t u : Text) (s r : Spec)
+    → readSpec op t ≡ accepted s
+    → readSpec op u ≡ accepted r
+    → canonicalText op s ≡ canonicalText op r
+    → s ≡ r
+
+-- no text need give the specs, if they have what an accepted spec has
+abbrev pub KeysOfAnySpecs : Type 0
+KeysOfAnySpecs = (op : ℕ) (s r : Spec) → AcceptedSpec op s → AcceptedSpec op r → canonicalText op s ≡ canonicalText op r → instruction op s ≡ instruction op r
+
+-- two instructions, but for whether they allow a non-fast-forward
+pub data ButForForce : Instruction → Instruction → Type 0 where
+  updates : (src dst : Text) (force force′ : Bool) → ButForForce (fetchAndUpdate src dst force) (fetchAndUpdate src dst force′)
+  branches : (force force′ : Bool) → ButForForce (pushAllMatchingBranches force) (pushAllMatchingBranches force′)
+  pushes : (src dst : Text) (force force′ : Bool) → ButForForce (pushMatching src dst force) (pushMatching src dst force′)
+
+-- the instructions are compared without it
+abbrev pub KeysWithoutForce : Type 0
+KeysWithoutForce =
+    (op : ℕ) (t u : Text) (s r : Spec)
+    → readSpec op t ≡ accepted s
+    → readSpec op u ≡ accepted r
+    → ButForForce (instruction op s) (instruction op r)
+    → canonicalText op s ≡ canonicalText op r
+
+-- One direction alone
+
+-- a text for every spec that differs where the instructions do
+abbrev pub TellsApart : (ℕ → Text → Text) → Type 0
+TellsApart key =
+    (op : ℕ) (t u : Text) (s r : Spec)
+    → readSpec op t ≡ accepted s
+    → readSpec op u ≡ accepted r
+    → key op t ≡ key op u
+    → instruction op s ≡ instruction op r
+
+-- one that is the same where the instructions are
+abbrev pub TellsTogether : (ℕ → Text → Text) → Type 0
+TellsTogether key =
+    (op : ℕ) (t u : Text) (s r : Spec)
+    → readSpec op t ≡ accepted s
+    → readSpec op u ≡ accepted r
+    → instruction op s ≡ instruction op r
+    → key op t ≡ key op u
+
+-- the first gives the second
+abbrev pub ApartIsEnough : Type 0
+ApartIsEnough = (key : ℕ → Text → Text) → TellsApart key → TellsTogether key
+
+-- the second gives the first
+abbrev pub TogetherIsEnough : Type 0
+TogetherIsEnough = (key : ℕ → Text → Text) → TellsTogether key → TellsApart key
+
+-- Reading back
+
+-- the text need not fit the limit
+abbrev pub ReadBackOfAnyLength : Type 0
+ReadBackOfAnyLength =
+    (op : ℕ) (t : Text) (s : Spec)
+    → readSpec op t ≡ accepted s
+    → plusOnly (instruction op s) ≡ false
+    → instructed op (canonicalText op s) ≡ accepted (instruction op s)
+
+-- every text fits it
+abbrev pub KeysFit : Type 0
+KeysFit = (op : ℕ) (t : Text) (s : Spec) → readSpec op t ≡ accepted s → length (canonicalText op s) ≤ specBytes
+
+-- a fetch-only source may begin with `+`
+abbrev pub ReadBackOfAnySource : Type 0
+ReadBackOfAnySource =
+    (op : ℕ) (t : Text) (s : Spec)
+    → readSpec op t ≡ accepted s
+    → length (canonicalText op s) ≤ specBytes
+    → instructed op (canonicalText op s) ≡ accepted (instruction op s)
+
+-- such a text is accepted at least
+abbrev pub ReadBackIsAccepted : Type 0
+ReadBackIsAccepted =
+    (op : ℕ) (t : Text) (s : Spec)
+    → readSpec op t ≡ accepted s
+    → length (canonicalText op s) ≤ specBytes
+    → (r : Spec) × (readSpec op (canonicalText op s) ≡ accepted r)
+
+-- every source that begins with `+` is an exception
+abbrev pub NoPlusReadsBack : Type 0
+NoPlusReadsBack =
+    (op : ℕ) (t src : Text) (s : Spec)
+    → readSpec op t ≡ accepted s
+    → s .source ≡ some src
+    → begins (bytes "+") src ≡ true
+    → instructed op (canonicalText op s) ≡ accepted (instruction op s)
+    → ⊥
+
+-- what is read back is the spec itself
+abbrev pub ReadBackIsTheSame : Type 0
+ReadBackIsTheSame =
+    (op : ℕ) (t : Text) (s : Spec)
+    → readSpec op t ≡ accepted s
+    → length (canonicalText op s) ≤ specBytes
+    → plusOnly (instruction op s) ≡ false
+    → readSpec op (canonicalText op s) ≡ accepted s
+
+-- Calls
+
+-- the calls may tell a refusal
+abbrev pub KeysToldThoughRefused : Type 0
+KeysToldThoughRefused =
+    (op : ℕ) (t u : Text) (c d : OneCall)
+    → MetOne (toBstring op t) c
+    → MetOne (toBstring op u) d
+    → bytesOf c ≡ bytesOf d
+    → instructed op t ≡ instructed op u
+
+-- the key is the whole buffer
+abbrev pub KeysToldOfBuffer : Type 0
+KeysToldOfBuffer =
+    (op : ℕ) (t u : Text) (c d : OneCall)
+    → MetOne (toBstring op t) c
+    → c .refusal ≡ 0
+    → MetOne (toBstring op u) d
+    → d .refusal ≡ 0
+    → (c .after ≡ d .after) ↔ (instructed op t ≡ instructed op u)
+
+-- none of them holds
+pub record FalseKeyVariants : Type 0 where
+  pub keys-across-operations : KeysAcrossOperations → ⊥
+  pub keys-of-equal-specs : KeysOfEqualSpecs → ⊥
+  pub keys-of-any-specs : KeysOfAnySpecs → ⊥
+  pub keys-without-force : KeysWithoutForce → ⊥
+  pub apart-is-enough : ApartIsEnough → ⊥
+  pub together-is-enough : TogetherIsEnough → ⊥
+  pub read-back-of-any-length : ReadBackOfAnyLength → ⊥
+  pub keys-fit : KeysFit → ⊥
+  pub read-back-of-any-source : ReadBackOfAnySource → ⊥
+  pub read-back-is-accepted : ReadBackIsAccepted → ⊥
+  pub no-plus-reads-back : NoPlusReadsBack → ⊥
+  pub read-back-is-the-same : ReadBackIsTheSame → ⊥
+  pub keys-told-though-refused : KeysToldThoughRefused → ⊥
+  pub keys-told-of-buffer : KeysToldOfBuffer → ⊥
+
+-- the statements speak of something: a call that leaves the key of a push with one side; one that leaves the key of an exception, and one on
+-- that key, which leaves another
+pub record KeyCallsMet : Type 0 where
+  pub one-sided : OneCall
+  pub one-sided-met : MetOne (toBstring 1 (bytes "a")) one-sided
+  pub one-sided-done : (one-sided .refusal ≡ 0) × (bytesOf one-sided ≡ bytes "a:a")
+  pub exception : OneCall
+  pub exception-met : MetOne (toBstring 0 (bytes "++a")) exception
+  pub exception-done : (exception .refusal ≡ 0) × (bytesOf exception ≡ bytes "+a")
+  pub again : OneCall
+  pub again-met : MetOne (toBstring 0 (bytesOf exception)) again
+  pub again-done : (again .refusal ≡ 0) × (bytesOf again ≡ bytes "a")
