@@ -22,3 +22,4 @@ pub mod Table
 pub mod Samples
 pub mod BufferSamples
 pub mod CollideSamples
+pub mod KeySamples
