@@ -68,7 +68,7 @@ no-room-met a b part e h = meets-two-short-first a [] [] [] [] b part 17 0 0 (le
 abbrev row : ℕ → ℕ → Text → Text → Row
 row i s a b = record { item = i; spec = s; kind = 0; source = a; destination = some b }
 
-abbrev only : Text → Spec
+abbrev pub only : Text → Spec
 only t = record { mode = Normal; source = some t; destination = none }
 
 abbrev pair : Text → Text → Spec

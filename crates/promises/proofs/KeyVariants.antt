@@ -9,7 +9,7 @@ use lib.Dec.{lit≤, lit<}
 use lib.ListN.{length, replicate}
 use Rattle.meaning.specs.Bytes.{Text, bytes}
 use Rattle.meaning.specs.Limits.{specBytes}
-use Rattle.meaning.specs.Spec.{Answer, accepted, refused, Mode, Normal, Force, Spec, readSpec}
+use Rattle.meaning.specs.Spec.{Answer, accepted, refused, Normal, Force, Spec, readSpec}
 use Rattle.meaning.specs.Instruction.{instruction, canonicalText}
 use Rattle.meaning.specs.Everything.{everything}
 use Rattle.promises.specs.Accepted.{AcceptedSpec}
@@ -17,14 +17,8 @@ use Rattle.promises.specs.KeyVariants.{KeysAcrossOperations, KeysOfEqual
 use Rattle.promises.proofs.Refusals.{refused-accepted}
 use Rattle.promises.proofs.Accepted.{read-is-accepted}
 use Rattle.promises.proofs.Plain.{specIs}
-use Rattle.promises.proofs.CallVariants.{writing, writing-met, shortOf, short-met}
-
--- specs with one side and with two, written short
-abbrev one : Text → Spec
-one src = specIs Normal (some src) none
-
-abbrev both : Mode → Text → Text → Spec
-both m src dst = specIs m (some src) (some dst)
+use Rattle.promises.proofs.CallVariants.{writing, writing-met, shortOf, short-met, only}
+use Rattle.promises.proofs.Writing.{twoSided}
 
 -- an absent side is not there
 some-none : {t : Text} → some t ≡ none → ⊥
@@ -36,7 +30,7 @@ some-none e = let z : _≡_ {A = ℕ} 0 1 = cc in omega arith
 across-operations : KeysAcrossOperations → ⊥
 unfolding everything
 across-operations f =
-    let s = both Normal (bytes "a") (bytes "b") in
+    let s = twoSided Normal (bytes "a") (bytes "b") in
     let e = f 0 1 (bytes "a:b") (bytes "a:b") s s refl refl refl in
     let z : _≡_ {A = ℕ} 0 1 = cc in omega arith
 
@@ -44,14 +38,14 @@ across-operations f =
 equal-specs : KeysOfEqualSpecs → ⊥
 unfolding everything
 equal-specs f =
-    let e = f 1 (bytes "a") (bytes "a:a") (one (bytes "a")) (both Normal (bytes "a") (bytes "a")) refl refl refl in
+    let e = f 1 (bytes "a") (bytes "a:a") (only (bytes "a")) (twoSided Normal (bytes "a") (bytes "a")) refl refl refl in
     some-none (sym (ap (λ (s : Spec). s .destination) e))
 
 -- the source `+a` without force, which no text gives, and the source `a` with force
 some-empty : {x : ℕ} {t : Text} → some (x ∷ t) ≡ some [] → ⊥
 some-empty e = let z : _≡_ {A = ℕ} 0 1 = cc in omega arith
 
-plus-source : AcceptedSpec 0 (both Normal (bytes "+a") (bytes "b"))
+plus-source : AcceptedSpec 0 (twoSided Normal (bytes "+a") (bytes "b"))
 unfolding everything
 plus-source =
     record {
@@ -72,14 +66,14 @@ plus-source =
 any-specs : KeysOfAnySpecs → ⊥
 unfolding everything
 any-specs f =
-    let e = f 0 (both Normal (bytes "+a") (bytes "b")) (both Force (bytes "a") (bytes "b")) plus-source (read-is-accepted 0 (bytes "+a:b") (both Force (bytes "a") (bytes "b")) refl) refl in
+    let e = f 0 (twoSided Normal (bytes "+a") (bytes "b")) (twoSided Force (bytes "a") (bytes "b")) plus-source (read-is-accepted 0 (bytes "+a:b") (twoSided Force (bytes "a") (bytes "b")) refl) refl in
     let z : false ≡ true = cc in false≢true z
 
 -- `a:b` and `+a:b` in fetch
 without-force : KeysWithoutForce → ⊥
 unfolding everything
 without-force f =
-    let e = f 0 (bytes "a:b") (bytes "+a:b") (both Normal (bytes "a") (bytes "b")) (both Force (bytes "a") (bytes "b")) refl refl (updates (bytes "a") (bytes "b") false true) in
+    let e = f 0 (bytes "a:b") (bytes "+a:b") (twoSided Normal (bytes "a") (bytes "b")) (twoSided Force (bytes "a") (bytes "b")) refl refl (updates (bytes "a") (bytes "b") false true) in
     omega (arith, ap (λ (t : Text). length t) e)
 
 -- One direction alone
@@ -95,14 +89,14 @@ spelt-apart op t u s r e f q =
 apart-enough : ApartIsEnough → ⊥
 unfolding everything
 apart-enough f =
-    let e = f (λ op t. t) spelt-apart 1 (bytes "a") (bytes "a:a") (one (bytes "a")) (both Normal (bytes "a") (bytes "a")) refl refl refl in
+    let e = f (λ op t. t) spelt-apart 1 (bytes "a") (bytes "a:a") (only (bytes "a")) (twoSided Normal (bytes "a") (bytes "a")) refl refl refl in
     omega (arith, ap (λ (t : Text). length t) e)
 
 -- one text for all is the same of all, also of `a` and `b`
 together-enough : TogetherIsEnough → ⊥
 unfolding everything
 together-enough f =
-    let e = f (λ op t. []) (λ op t u s r x y z. refl) 0 (bytes "a") (bytes "b") (one (bytes "a")) (one (bytes "b")) refl refl refl in
+    let e = f (λ op t. []) (λ op t u s r x y z. refl) 0 (bytes "a") (bytes "b") (only (bytes "a")) (only (bytes "b")) refl refl refl in
     let z : _≡_ {A = ℕ} 97 98 = cc in omega arith
 
 -- Reading back
@@ -111,17 +105,17 @@ together-enough f =
 abbrev long : Text
 long = replicate (specBytes / 2) 97
 
-long-read : readSpec 1 long ≡ accepted (one long)
+long-read : readSpec 1 long ≡ accepted (only long)
 unfolding everything
 long-read = refl
 
 any-length : ReadBackOfAnyLength → ⊥
 unfolding everything
-any-length f = refused-accepted (f 1 long (one long) long-read refl)
+any-length f = refused-accepted (f 1 long (only long) long-read refl)
 
 keys-fit : KeysFit → ⊥
 unfolding everything
-keys-fit f = let h : length (canonicalText 1 (one long)) ≤ specBytes = f 1 long (one long) long-read in omega arith
+keys-fit f = let h : length (canonicalText 1 (only long)) ≤ specBytes = f 1 long (only long) long-read in omega arith
 
 -- `++a`, whose key is read as only `a`
 abbrev plusA : Spec
@@ -141,7 +135,7 @@ is-accepted f = refused-accepted (f 0 (bytes "++.a") (specIs Force (some (bytes 
 -- `++a:b`, which is read back
 no-plus : NoPlusReadsBack → ⊥
 unfolding everything
-no-plus f = f 0 (bytes "++a:b") (bytes "+a") (both Force (bytes "+a") (bytes "b")) refl refl refl refl
+no-plus f = f 0 (bytes "++a:b") (bytes "+a") (twoSided Force (bytes "+a") (bytes "b")) refl refl refl refl
 
 -- the destination of a spec that is accepted
 abbrev destinationIn : Answer Spec → Option Text
@@ -151,7 +145,7 @@ destinationIn (refused n r) = none
 -- `a` in push, whose key is `a:a`
 is-the-same : ReadBackIsTheSame → ⊥
 unfolding everything
-is-the-same f = some-none (ap destinationIn (f 1 (bytes "a") (one (bytes "a")) refl (lit≤ tt) refl))
+is-the-same f = some-none (ap destinationIn (f 1 (bytes "a") (only (bytes "a")) refl (lit≤ tt) refl))
 
 -- Calls
 
