@@ -34,6 +34,21 @@ calm-mode : (s : Spec) → isNegative (calm s .mode) ≡ isNegative (s .mode)
 unfolding calm
 calm-mode s = calm-negative (s .mode) (s .destination)
 
+-- it has no more to lose
+calm-mode-twice : (m : Mode) (d : Option Text) → calmMode (calmMode m d) d ≡ calmMode m d
+calm-mode-twice Normal d = refl
+calm-mode-twice Negative d = refl
+calm-mode-twice Force none = refl
+calm-mode-twice Force (some d) = refl
+
+calm-twice : (s : Spec) → calm (calm s) ≡ calm s
+unfolding calm
+calm-twice s = rw (calm-mode-twice (s .mode) (s .destination))
+
+pub calm-all-twice : (group : List Spec) → map calm (map calm group) ≡ map calm group
+calm-all-twice [] = refl
+calm-all-twice (s ∷ group) = rw (calm-twice s, calm-all-twice group)
+
 -- a name is mapped alike
 calm-forward : (s : Spec) (name : Text) → forward (calm s) name ≡ forward s name
 unfolding forward calm

@@ -12,6 +12,7 @@ use Rattle.meaning.specs.Limits.{specBytes, specListBytes, specCount}
 use Rattle.meaning.specs.Spec.{accepted, Mode, Normal, Force, Negative, Spec, isNegative, readSpec}
 use Rattle.meaning.specs.Instruction.{instruction, canonicalText}
 use Rattle.meaning.specs.Lists.{readSpecs}
+use Rattle.meaning.specs.Listing.{forwardRows, reverseRows}
 use Rattle.meaning.specs.Entries.{verdictOn, matchLhs, matchRhs, validated}
 use Rattle.promises.specs.Terms.{canonicalList, textFits, noPlus, SameMeaning}
 use Rattle.promises.specs.Demands.{CanonicalTextsChangeNothing}
@@ -19,7 +20,7 @@ use Rattle.promises.proofs.Laws.{every-in}
 use Rattle.promises.proofs.Members.{group-count, group-texts, specs-written}
 use Rattle.promises.proofs.Accepted.{read-is-accepted, present-is}
 use Rattle.promises.proofs.Plain.{specIs, plain, text-back}
-use Rattle.promises.proofs.Calm.{calm, calm-forward-rows, calm-reverse-rows, map-length}
+use Rattle.promises.proofs.Calm.{calm, calm-all-twice, calm-forward-rows, calm-reverse-rows, map-length}
 
 -- the spec that the text of a fetch is read as is the calm spec
 plain-calm : (m : Mode) (src : Text) (dst : Option Text) → (isNegative m ≡ true → dst ≡ none) → plain (instruction 0 (specIs m (some src) dst)) ≡ calm (specIs m (some src) dst)
@@ -31,15 +32,17 @@ plain-calm Force src (some d) n = refl
 plain-calm Negative src none n = refl
 plain-calm Negative src (some d) n = absurd (let q = n refl in let z : _≡_ {A = ℕ} 0 1 = cc in omega arith)
 
--- the canonical text of an accepted spec is read as the spec, but for the `+` of a fetch-only
-canon : (s : Spec) (t : Text) → readSpec 0 t ≡ accepted s → textFits s ≡ true → noPlus s ≡ true → readSpec 0 (canonicalText 0 s) ≡ accepted (calm s)
-unfolding canonicalText textFits noPlus
-canon s t e h k =
+pub calm-plain : (s : Spec) (t : Text) → readSpec 0 t ≡ accepted s → plain (instruction 0 s) ≡ calm s
+calm-plain s t e =
     let a = read-is-accepted 0 t s e in
     let q = present-is (s .source) (a .fetch-source refl) in
     let f : s ≡ specIs (s .mode) (some (q .0)) (s .destination) = λ i. record { mode = s .mode; source = q .1 i; destination = s .destination } in
-    let c : plain (instruction 0 s) ≡ calm s = rw f (plain-calm (s .mode) (q .0) (s .destination) (a .negative-alone)) in
-    text-back 0 t s e (leb-true _ specBytes h) (not-true _ k) ∙ ap accepted c
+    rw f (plain-calm (s .mode) (q .0) (s .destination) (a .negative-alone))
+
+-- the canonical text of an accepted spec is read as the spec, but for the `+` of a fetch-only
+canon : (s : Spec) (t : Text) → readSpec 0 t ≡ accepted s → textFits s ≡ true → noPlus s ≡ true → readSpec 0 (canonicalText 0 s) ≡ accepted (calm s)
+unfolding canonicalText textFits noPlus
+canon s t e h k = text-back 0 t s e (leb-true _ specBytes h) (not-true _ k) ∙ ap accepted (calm-plain s t e)
 
 -- the list of canonical texts is accepted
 
@@ -55,22 +58,35 @@ module _ (group : List Spec) (count : length group ≤ specCount) (texts : (s : 
   list-back : length (canonicalList group) ≤ specListBytes → readSpecs 0 (canonicalList group) ≡ accepted (map calm group)
   list-back h = specs-written 0 (omega arith) (canonicalText 0) calm group count text-short one-back h
 
-module _ (specs specs′ : Text) (group : List Spec) (e : readSpecs 0 specs ≡ accepted group) (e′ : readSpecs 0 specs′ ≡ accepted (map calm group)) where
-  -- the verdicts are the same
+-- groups that are one, but for the `+` of fetch-only specs, mean the same
+
+module _ (specs specs′ : Text) (group group′ : List Spec) (e : readSpecs 0 specs ≡ accepted group) (e′ : readSpecs 0 specs′ ≡ accepted group′) (m : map calm group ≡ map calm group′) where
+  -- they have as many specs
+  same-count : length group ≡ length group′
+  same-count = sym (map-length group) ∙ ap (λ (l : List Spec). length l) m ∙ map-length group′
+
+  -- the same rows
+  same-forward : (names : List Text) → forwardRows group names ≡ forwardRows group′ names
+  same-forward names = sym (calm-forward-rows group names) ∙ ap (λ (l : List Spec). forwardRows l names) m ∙ calm-forward-rows group′ names
+
+  same-reverse : (names : List Text) → reverseRows group names ≡ reverseRows group′ names
+  same-reverse names = sym (calm-reverse-rows group names) ∙ ap (λ (l : List Spec). reverseRows l names) m ∙ calm-reverse-rows group′ names
+
+  -- the same verdicts
   same-verdict : (list : Text) → verdictOn 0 specs list ≡ verdictOn 0 specs′ list
   unfolding verdictOn
-  same-verdict list = rw (e, e′, map-length group)
+  same-verdict list = rw (e, e′, same-count)
 
   -- and all else
-  same-meaning : SameMeaning group (map calm group) specs specs′
+  pub same-meaning : SameMeaning group group′ specs specs′
   unfolding matchLhs matchRhs validated
   same-meaning =
       record {
-        forward-rows = λ names. sym (calm-forward-rows group names);
-        reverse-rows = λ names. sym (calm-reverse-rows group names);
+        forward-rows = same-forward;
+        reverse-rows = same-reverse;
         verdicts = same-verdict;
-        forward-entry = λ items. rw (e, e′) (simp (calm-forward-rows group));
-        reverse-entry = λ items. rw (e, e′) (simp (calm-reverse-rows group));
+        forward-entry = λ items. rw (e, e′) (simp same-forward);
+        reverse-entry = λ items. rw (e, e′) (simp same-reverse);
         validated-entry = λ list. rw (same-verdict list);
       }
 
@@ -78,4 +94,4 @@ module _ (specs specs′ : Text) (group : List Spec) (e : readSpecs 0 specs ≡ 
 pub canonical-texts-change-nothing : CanonicalTextsChangeNothing
 canonical-texts-change-nothing specs group e fits h no-plus =
     let e′ = list-back group (group-count 0 specs group e) (group-texts 0 specs group e) fits no-plus h in
-    (map calm group, e′, same-meaning specs (canonicalList group) group e e′)
+    (map calm group, e′, same-meaning specs (canonicalList group) group (map calm group) e e′ (sym (calm-all-twice group)))

@@ -3,7 +3,7 @@ use Prim.Native.Nat.{ℕ, _/_, _≤_}
 use native.Mathlib.Omega.{arith}
 use mathlib.Core.Path.{_≡_, refl, sym, ap, _∙_}
 use mathlib.Core.Bool.{true, false, false≢true}
-use mathlib.Core.List.{[], _∷_, _++_}
+use mathlib.Core.List.{List, [], _∷_, _++_}
 use mathlib.Core.Option.{Option, none, some}
 use lib.Dec.{lit≤, lit<}
 use lib.ListN.{length, replicate}
@@ -11,9 +11,10 @@ use Rattle.meaning.specs.Bytes.{Text, bytes}
 use Rattle.meaning.specs.Limits.{specBytes}
 use Rattle.meaning.specs.Spec.{Answer, accepted, refused, Normal, Force, Spec, readSpec}
 use Rattle.meaning.specs.Instruction.{instruction, canonicalText}
+use Rattle.meaning.specs.Rows.{Row}
 use Rattle.meaning.specs.Everything.{everything}
 use Rattle.promises.specs.Accepted.{AcceptedSpec}
-use Rattle.promises.specs.KeyVariants.{KeysAcrossOperations, KeysOfEqualSpecs, KeysOfAnySpecs, KeysWithoutForce, updates, TellsApart, ApartIsEnough, TogetherIsEnough, ReadBackOfAnyLength, KeysFit, ReadBackOfAnySource, ReadBackIsAccepted, NoPlusReadsBack, ReadBackIsTheSame, KeysToldThoughRefused, KeysToldOfBuffer, FalseKeyVariants, KeyCallsMet}
+use Rattle.promises.specs.KeyVariants.{KeysAcrossOperations, KeysOfEqualSpecs, KeysOfAnySpecs, KeysWithoutForce, updates, SameKeysInPush, TellsApart, ApartIsEnough, TogetherIsEnough, ReadBackOfAnyLength, KeysFit, ReadBackOfAnySource, ReadBackIsAccepted, NoPlusReadsBack, ReadBackIsTheSame, KeysToldThoughRefused, KeysToldOfBuffer, FalseKeyVariants, KeyCallsMet}
 use Rattle.promises.proofs.Refusals.{refused-accepted}
 use Rattle.promises.proofs.Accepted.{read-is-accepted}
 use Rattle.promises.proofs.Plain.{specIs}
@@ -75,6 +76,16 @@ unfolding everything
 without-force f =
     let e = f 0 (bytes "a:b") (bytes "+a:b") (twoSided Normal (bytes "a") (bytes "b")) (twoSided Force (bytes "a") (bytes "b")) refl refl (updates (bytes "a") (bytes "b") false true) in
     omega (arith, ap (λ (t : Text). length t) e)
+
+-- the destination of the first row
+abbrev firstDestination : List Row → Option Text
+firstDestination [] = none
+firstDestination (r ∷ l) = r .destination
+
+-- push `a` and `a:a` on the name `refs/heads/a`: a row without destination, and one with it
+in-push : SameKeysInPush → ⊥
+unfolding everything
+in-push f = some-none (sym (ap firstDestination (f (bytes "a") (bytes "a:a") (only (bytes "a")) (twoSided Normal (bytes "a") (bytes "a")) (bytes "refs/heads/a" ∷ []) refl refl refl)))
 
 -- One direction alone
 
@@ -171,6 +182,7 @@ false-key-variants =
       keys-of-equal-specs = equal-specs;
       keys-of-any-specs = any-specs;
       keys-without-force = without-force;
+      same-keys-in-push = in-push;
       apart-is-enough = apart-enough;
       together-is-enough = together-enough;
       read-back-of-any-length = any-length;

@@ -1,25 +1,28 @@
 -- Canonical texts are keys: document 02, W13. A text tells its instruction, so equal texts have equal instructions. Assumes nothing.
 use mathlib.Core.Path.{_≡_, refl, sym, ap, _∙_}
 use mathlib.Core.Bool.{Bool, true, false, not, cond, false≢true}
-use mathlib.Core.List.{[], _∷_, _++_}
+use mathlib.Core.List.{List, [], _∷_, _++_, map}
 use Prim.Native.Nat.{ℕ}
 use native.Mathlib.Omega.{arith}
 use borrow.Author.Tests.{le-leb, lt-leb, eqb-true}
 use lib.Dec.{eqb}
 use lib.ListN.{length}
-use Rattle.meaning.specs.Bytes.{Text, bytes, plus, colon, _and_, same, begins, hasByte, orEmpty}
+use Rattle.meaning.specs.Bytes.{Text, bytes, plus, colon, _and_, same, begins, hasByte, orEmpty, In, here, there}
 use Rattle.meaning.specs.Limits.{specBytes}
-use Rattle.meaning.specs.Spec.{accepted, Force, modeOfByte, supplied, named, sourceOf, specFrom, specOf, specRefusal, readSpec}
+use Rattle.meaning.specs.Spec.{accepted, Force, Spec, modeOfByte, supplied, named, sourceOf, specFrom, specOf, specRefusal, readSpec}
 use Rattle.meaning.specs.Instruction.{Instruction, fetchOnly, fetchExclude, fetchAndUpdate, pushAllMatchingBranches, pushDelete, pushMatching, pushExclude, instruction, instructionText, canonicalText}
 use Rattle.meaning.specs.Entries.{instructed, toBstring}
-use Rattle.promises.specs.Terms.{plusOnly}
-use Rattle.promises.specs.Keys.{EveryAcceptedHasKey, KeysExactly, KeysReadBack, LongKeysRefused, PlusNeverReadsBack}
+use Rattle.promises.specs.Terms.{canonicalTexts, plusOnly}
+use Rattle.promises.specs.Keys.{EveryAcceptedHasKey, KeysExactly, KeysReadBack, LongKeysRefused, PlusNeverReadsBack, SameKeysSameMeaning}
 use Rattle.promises.proofs.Laws.{and-left, or-right}
 use Rattle.promises.proofs.Splitting.{sides-one}
 use Rattle.promises.proofs.Accepted.{read-passed, read-is-accepted}
 use Rattle.promises.proofs.Refusals.{and-accepted}
 use Rattle.promises.proofs.Clean.{Clean, clean-colon}
-use Rattle.promises.proofs.Plain.{Fine, fine-means, fine-back, readable, text-back}
+use Rattle.promises.proofs.Members.{group-texts}
+use Rattle.promises.proofs.Calm.{calm}
+use Rattle.promises.proofs.Canonical.{calm-plain, same-meaning}
+use Rattle.promises.proofs.Plain.{plain, Fine, fine-means, fine-back, readable, text-back}
 
 -- every accepted spec has its instruction and its key
 pub every-accepted-has-key : EveryAcceptedHasKey
@@ -137,3 +140,24 @@ plus-never op i h b e =
 pub plus-never-reads-back : PlusNeverReadsBack
 unfolding canonicalText
 plus-never-reads-back op t s e b f = plus-never op (instruction op s) (readable op t s e .is-fine) b (instructed-means op _ _ f)
+
+-- Groups with the same keys
+
+-- two accepted fetch specs with one key are one, but for the `+` of a fetch-only
+same-calm : (s r : Spec) (t u : Text) → readSpec 0 t ≡ accepted s → readSpec 0 u ≡ accepted r → canonicalText 0 s ≡ canonicalText 0 r → calm s ≡ calm r
+same-calm s r t u e f q = sym (calm-plain s t e) ∙ ap plain (keys-exactly 0 t u s r e f .0 q) ∙ calm-plain r u f
+
+-- so for every place of two groups
+all-calm : (group group′ : List Spec) → ((s : Spec) → In s group → (t : Text) × (readSpec 0 t ≡ accepted s)) → ((s : Spec) → In s group′ → (t : Text) × (readSpec 0 t ≡ accepted s)) → canonicalTexts group ≡ canonicalTexts group′ → map calm group ≡ map calm group′
+all-calm [] [] h k q = refl
+all-calm [] (r ∷ group′) h k q = absurd (let z : _≡_ {A = ℕ} 0 1 = cc in omega arith)
+all-calm (s ∷ group) [] h k q = absurd (let z : _≡_ {A = ℕ} 0 1 = cc in omega arith)
+all-calm (s ∷ group) (r ∷ group′) h k q =
+    let a : canonicalText 0 s ≡ canonicalText 0 r = cc in
+    let b : canonicalTexts group ≡ canonicalTexts group′ = cc in
+    let e = h s here in
+    let f = k r here in
+    rw (same-calm s r (e .0) (f .0) (e .1) (f .1) a, all-calm group group′ (λ x m. h x (there m)) (λ x m. k x (there m)) b)
+
+pub same-keys-same-meaning : SameKeysSameMeaning
+same-keys-same-meaning specs specs′ group group′ e f q = same-meaning specs specs′ group group′ e f (all-calm group group′ (group-texts 0 specs group e) (group-texts 0 specs′ group′ f) q)

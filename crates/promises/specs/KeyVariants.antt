@@ -3,12 +3,14 @@ use Prim.Native.Nat.{ℕ, _≤_}
 use mathlib.Core.Path.{_≡_}
 use mathlib.Core.Logic.{_↔_}
 use mathlib.Core.Bool.{Bool, true, false}
+use mathlib.Core.List.{List, [], _∷_}
 use mathlib.Core.Option.{some}
 use lib.ListN.{length}
 use Rattle.meaning.specs.Bytes.{Text, bytes, begins}
 use Rattle.meaning.specs.Limits.{specBytes}
 use Rattle.meaning.specs.Spec.{accepted, Spec, readSpec}
 use Rattle.meaning.specs.Instruction.{Instruction, fetchAndUpdate, pushAllMatchingBranches, pushMatching, instruction, canonicalText}
+use Rattle.meaning.specs.Listing.{forwardRows}
 use Rattle.meaning.specs.Entries.{instructed, toBstring}
 use Rattle.promises.specs.Accepted.{AcceptedSpec}
 use Rattle.promises.specs.Terms.{plusOnly, OneCall, MetOne, bytesOf}
@@ -51,6 +53,15 @@ KeysWithoutForce =
     → readSpec op u ≡ accepted r
     → ButForForce (instruction op s) (instruction op r)
     → canonicalText op s ≡ canonicalText op r
+
+-- two pushes with one key have the same rows
+abbrev pub SameKeysInPush : Type 0
+SameKeysInPush =
+    (t u : Text) (s r : Spec) (names : List Text)
+    → readSpec 1 t ≡ accepted s
+    → readSpec 1 u ≡ accepted r
+    → canonicalText 1 s ≡ canonicalText 1 r
+    → forwardRows (s ∷ []) names ≡ forwardRows (r ∷ []) names
 
 -- One direction alone
 
@@ -156,6 +167,7 @@ pub record FalseKeyVariants : Type 0 where
   pub keys-of-equal-specs : KeysOfEqualSpecs → ⊥
   pub keys-of-any-specs : KeysOfAnySpecs → ⊥
   pub keys-without-force : KeysWithoutForce → ⊥
+  pub same-keys-in-push : SameKeysInPush → ⊥
   pub apart-is-enough : ApartIsEnough → ⊥
   pub together-is-enough : TogetherIsEnough → ⊥
   pub read-back-of-any-length : ReadBackOfAnyLength → ⊥

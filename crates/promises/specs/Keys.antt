@@ -5,15 +5,16 @@ use Prim.Native.Nat.{ℕ, _≤_, _<_}
 use mathlib.Core.Path.{_≡_}
 use mathlib.Core.Logic.{_↔_}
 use mathlib.Core.Bool.{true, false}
-use mathlib.Core.List.{[], _∷_}
+use mathlib.Core.List.{List, [], _∷_}
 use mathlib.Core.Option.{none, some}
 use lib.ListN.{length}
 use Rattle.meaning.specs.Bytes.{Text}
 use Rattle.meaning.specs.Limits.{specBytes}
 use Rattle.meaning.specs.Spec.{accepted, refused, Spec, readSpec}
 use Rattle.meaning.specs.Instruction.{instruction, canonicalText}
+use Rattle.meaning.specs.Lists.{readSpecs}
 use Rattle.meaning.specs.Entries.{instructed, toBstring}
-use Rattle.promises.specs.Terms.{plusOnly}
+use Rattle.promises.specs.Terms.{canonicalTexts, plusOnly, SameMeaning}
 
 -- "[..] for every accepted spec of either operation [..]": each has its instruction and its key.
 abbrev pub EveryAcceptedHasKey : Type 0
@@ -57,3 +58,14 @@ PlusNeverReadsBack =
     → plusOnly (instruction op s) ≡ true
     → instructed op (canonicalText op s) ≡ accepted (instruction op s)
     → ⊥
+
+-- "Invoice lines will be keyed by canonical text [..]", "beside what already holds for groups".
+-- Two fetch groups with the same keys, each in its place, have the same rows, conflicts, kept rows and fixes, whatever the items and rows:
+-- without a limit, and fetch-only sources that begin with `+` among them.
+abbrev pub SameKeysSameMeaning : Type 0
+SameKeysSameMeaning =
+    (specs specs′ : Text) (group group′ : List Spec)
+    → readSpecs 0 specs ≡ accepted group
+    → readSpecs 0 specs′ ≡ accepted group′
+    → canonicalTexts group ≡ canonicalTexts group′
+    → SameMeaning group group′ specs specs′
