@@ -5,6 +5,7 @@
 mod calls;
 mod collision;
 mod group;
+mod key;
 mod list;
 mod name;
 mod number;
@@ -14,6 +15,7 @@ mod validation;
 pub use calls::{group_prefixes, match_lhs, match_rhs, source, validated};
 pub use collision::{RefusedSpec, collide};
 pub use group::{Group, Part, Row};
+pub use key::{Instruction, Kind};
 pub use list::{Items, list, read_row};
 pub use spec::{Mode, Spec, read_spec};
 pub use validation::{Conflict, ConflictSource, Fix, Verdict};
