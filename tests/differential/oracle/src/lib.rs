@@ -1,14 +1,16 @@
 //! What gix-refspec answers, about one spec in the numbers and places of the C
-//! interface, about a group of specs as rows, about rows, and about where two specs
-//! write, so that the two can be compared field by field.
+//! interface, about a group of specs as rows, about rows, about where two specs write,
+//! and about the texts of two specs, so that the two can be compared field by field.
 
 mod collisions;
 mod groups;
+mod keys;
 mod refusal;
 mod validation;
 
 pub use collisions::{FetchSpec, shared};
 pub use groups::{Group, Row};
+pub use keys::{Fields, Keyed, ReadAs};
 pub use validation::{Conflict, ConflictSource, Fix, Verdict};
 
 use bstr::BStr;
@@ -59,8 +61,9 @@ fn operation(op: u64) -> Operation {
     if op == 0 { Operation::Fetch } else { Operation::Push }
 }
 
-fn answer(spec: &[u8], read: RefSpecRef<'_>) -> Answer {
-    let (kind, force, source, destination) = match read.instruction() {
+/// Kind, force, source and destination of an instruction.
+fn fields(instruction: Instruction<'_>) -> (u64, bool, Option<&BStr>, Option<&BStr>) {
+    match instruction {
         Instruction::Fetch(Fetch::Only { src }) => (0, false, Some(src), None),
         Instruction::Fetch(Fetch::Exclude { src }) => (1, false, Some(src), None),
         Instruction::Fetch(Fetch::AndUpdate { src, dst, allow_non_fast_forward }) => {
@@ -74,7 +77,11 @@ fn answer(spec: &[u8], read: RefSpecRef<'_>) -> Answer {
             (5, allow_non_fast_forward, Some(src), Some(dst))
         }
         Instruction::Push(Push::Exclude { src }) => (6, false, Some(src), None),
-    };
+    }
+}
+
+fn answer(spec: &[u8], read: RefSpecRef<'_>) -> Answer {
+    let (kind, force, source, destination) = fields(read.instruction());
     let mut prefixes = Vec::new();
     read.expand_prefixes(&mut prefixes);
     Answer {
