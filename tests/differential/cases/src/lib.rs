@@ -1,15 +1,17 @@
 //! The texts that the runs are made of: all short ones over some bytes, random
 //! ones grown from telling pieces, damaged copies of good ones, and long ones,
-//! among them those around the limit of 4,096 bytes; pairs of specs; and groups of specs
-//! and items.
+//! among them those around the limit of 4,096 bytes; pairs of specs, that may meet or that
+//! share sides; and groups of specs and items.
 //! All are fixed by a seed and a number.
 
 mod groups;
+mod keys;
 mod pairs;
 mod random;
 mod specs;
 
 pub use groups::{Group, group, group_of};
+pub use keys::sharing_sides;
 pub use pairs::{TELLING_SPECS, pair};
 pub use random::Random;
 pub use specs::{FAMILIES, around_the_limit, damaged, good, grown, of_length};
