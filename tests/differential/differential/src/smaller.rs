@@ -2,7 +2,11 @@
 
 use crate::specs::records;
 use cases::{short_text, short_texts};
+use std::time::{Duration, Instant};
 use vasigmon::list;
+
+/// How long two smaller texts are looked for.
+const PATIENCE: Duration = Duration::from_secs(20);
 
 /// Copies of a list without a run of its elements, longer runs first.
 pub fn shorter<T: Clone>(list: &[T]) -> impl Iterator<Item = Vec<T>> + '_ {
@@ -47,6 +51,26 @@ pub fn fewest_records(list: &[u8], differs: impl Fn(Vec<u8>) -> bool) -> Vec<u8>
     match records(list) {
         Ok(records) => list::of(fewest(records, |fewer| differs(list::of(fewer)))),
         Err(_) => list.to_vec(),
+    }
+}
+
+/// Two smallest texts that still differ: bytes are left out, and then also made an `a`, while
+/// they do and time allows.
+pub fn smallest_two(texts: [Vec<u8>; 2], differs: impl Fn(&[Vec<u8>; 2]) -> bool) -> [Vec<u8>; 2] {
+    let until = Instant::now() + PATIENCE;
+    let differs = |texts: &[Vec<u8>; 2]| Instant::now() < until && differs(texts);
+    let [first, second] = texts;
+    let first = fewest(first, |first| differs(&[first.to_vec(), second.clone()]));
+    let second = fewest(second, |second| differs(&[first.clone(), second.to_vec()]));
+    let mut texts = [first, second];
+    loop {
+        let firsts = copies(&texts[0]).map(|first| [first, texts[1].clone()]);
+        let seconds = copies(&texts[1]).map(|second| [texts[0].clone(), second]);
+        let smaller = firsts.chain(seconds).take_while(|_| Instant::now() < until).find(differs);
+        match smaller {
+            Some(smaller) => texts = smaller,
+            None => return texts,
+        }
     }
 }
 

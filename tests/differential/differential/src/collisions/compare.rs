@@ -5,16 +5,12 @@ use super::{Entry, Pair, Seen, refusal};
 use crate::{
     Fault,
     buffers::{Again, Call, Lent, refused, written},
-    smaller::{copies, fewest},
+    smaller::smallest_two,
 };
 use cases::SPEC_LIMIT;
 use oracle::FetchSpec;
 use paper::RefusedSpec;
-use std::time::{Duration, Instant};
 use vasigmon::raw::Collision;
-
-/// How long a smaller pair is looked for.
-const PATIENCE: Duration = Duration::from_secs(20);
 
 /// What the crate says of a destination that is told, or of none: a complaint, if it does
 /// not agree.
@@ -114,26 +110,12 @@ impl Comparison {
         }
     }
 
-    /// A smallest pair that still shows a difference: bytes are left out, and then also made
-    /// an `a`, while it does and time allows.
+    /// A smallest pair that still shows a difference.
     pub fn smallest(&self, pair: Pair) -> Pair {
-        let until = Instant::now() + PATIENCE;
+        let of = |[first, second]: [Vec<u8>; 2]| Pair { first, second };
         let differs =
-            |pair: &Pair| Instant::now() < until && self.run(pair, Again::All, &mut Seen::default()).is_err();
-        let Pair { first, second } = pair;
-        let first = fewest(first, |first| differs(&Pair { first: first.to_vec(), second: second.clone() }));
-        let second =
-            fewest(second, |second| differs(&Pair { first: first.clone(), second: second.to_vec() }));
-        let mut pair = Pair { first, second };
-        loop {
-            let firsts = copies(&pair.first).map(|first| Pair { first, ..pair.clone() });
-            let seconds = copies(&pair.second).map(|second| Pair { second, ..pair.clone() });
-            let smaller = firsts.chain(seconds).take_while(|_| Instant::now() < until).find(differs);
-            match smaller {
-                Some(smaller) => pair = smaller,
-                None => return pair,
-            }
-        }
+            |texts: &[Vec<u8>; 2]| self.run(&of(texts.clone()), Again::All, &mut Seen::default()).is_err();
+        of(smallest_two([pair.first, pair.second], differs))
     }
 }
 
