@@ -1,12 +1,13 @@
 //! Runs gix-refspec and the archive on the same specs, on the same groups of specs and
-//! items, on the same rows and on the same pairs of specs, and compares all they answer. See
-//! ../README.md.
+//! items, on the same rows and on the same pairs of specs, and compares all they answer: of
+//! pairs whether they collide, and whether their keys tell them apart. See ../README.md.
 
 mod buffers;
 mod collisions;
 mod damage;
 mod groups;
 mod hex;
+mod keys;
 mod smaller;
 mod specs;
 mod validation;
@@ -20,25 +21,26 @@ use std::process::ExitCode;
 use validation::{Case, Second};
 use work::Sample;
 
-const USAGE: &str = "usage: differential [--seed N] [--one-in N] [--part specs|groups|validation|collisions] \
-    [--count N] [--groups N] [--listings N] [--pairs N] [--fault oracle|ours|paper] \
+const USAGE: &str = "usage: differential [--seed N] [--one-in N] [--part specs|groups|validation|collisions|keys] \
+    [--count N] [--groups N] [--listings N] [--pairs N] [--keys N] [--fault oracle|ours|paper] \
     [--op N --spec-hex HEX | --op N --specs-hex HEX --items-hex HEX | --op N --specs-hex HEX --rows-hex HEX | \
-    --first-hex HEX --second-hex HEX]";
+    --first-hex HEX --second-hex HEX | --part keys --op N --first-hex HEX --second-hex HEX]";
 
 /// A wrong answer that is put in on purpose, to show that the comparison sees it.
 #[derive(Clone, Copy, PartialEq, Eq)]
 pub enum Fault {
     None,
     /// The crate's side: the force of each fetch that updates is flipped, each reverse
-    /// listing loses its last row, the sources of each conflict are reversed, and of the
-    /// destinations of a spec, or of two, the last is lost.
+    /// listing loses its last row, the sources of each conflict are reversed, of the
+    /// destinations of a spec, or of two, the last is lost, and the key of each forced
+    /// fetch that updates loses its plus.
     Oracle,
     /// Our side: each list of prefixes of one spec loses its last one, each forward
-    /// listing its last row, and each list of fixes and each destination of two specs
-    /// its last byte.
+    /// listing its last row, each list of fixes and each destination of two specs its
+    /// last byte, and the key of each one-sided push its destination.
     Ours,
-    /// The paper's side: each refusal of a list names the next record, and each refusal
-    /// of one of two specs the other.
+    /// The paper's side: each refusal of a list names the next record, each refusal of
+    /// one of two specs the other, and the key of each delete keeps its plus.
     Paper,
 }
 
@@ -63,6 +65,7 @@ struct Options {
     groups: u64,
     listings: u64,
     pairs: u64,
+    keys: u64,
     fault: Fault,
     op: u64,
     spec: Option<Vec<u8>>,
@@ -72,13 +75,14 @@ struct Options {
     rows: Option<Vec<u8>>,
 }
 
-/// What is compared: single specs, groups, rows, pairs of specs.
+/// What is compared: single specs, groups, rows, pairs of specs, their keys.
 #[derive(Clone, Copy, PartialEq, Eq)]
 enum Part {
     Specs,
     Groups,
     Validation,
     Collisions,
+    Keys,
 }
 
 fn options() -> Option<Options> {
@@ -89,6 +93,7 @@ fn options() -> Option<Options> {
         groups: 500_000,
         listings: 120_000,
         pairs: 200_000,
+        keys: 500_000,
         fault: Fault::None,
         op: 0,
         spec: None,
@@ -107,10 +112,12 @@ fn options() -> Option<Options> {
             "--part" if value == "groups" => options.part = Some(Part::Groups),
             "--part" if value == "validation" => options.part = Some(Part::Validation),
             "--part" if value == "collisions" => options.part = Some(Part::Collisions),
+            "--part" if value == "keys" => options.part = Some(Part::Keys),
             "--count" => options.count = value.parse().ok()?,
             "--groups" => options.groups = value.parse().ok()?,
             "--listings" => options.listings = value.parse().ok()?,
             "--pairs" => options.pairs = value.parse().ok()?,
+            "--keys" => options.keys = value.parse().ok()?,
             "--op" => options.op = value.parse().ok()?,
             "--spec-hex" => options.spec = Some(from_hex(&value)?),
             "--first-hex" => options.pair[0] = Some(from_hex(&value)?),
@@ -138,13 +145,18 @@ fn main() -> ExitCode {
     let groups = groups::Comparison { entries: groups::ENTRIES, fault: options.fault, noise: noise.clone() };
     let validation =
         validation::Comparison { entry: validation::ENTRY, fault: options.fault, noise: noise.clone() };
-    let collisions = collisions::Comparison { entry: collisions::ENTRY, fault: options.fault, noise };
+    let collisions =
+        collisions::Comparison { entry: collisions::ENTRY, fault: options.fault, noise: noise.clone() };
+    let keys = keys::Comparison { entries: keys::ENTRIES, fault: options.fault, noise };
 
     let (op, part) = (options.op, options.part);
     let passed = if let Some(spec) = options.spec {
         specs::one(&specs, op, &spec)
     } else if let [Some(first), Some(second)] = options.pair {
-        collisions::one(&collisions, &Pair { first, second })
+        match part {
+            Some(Part::Keys) => keys::one(&keys, &keys::Pair { op, first, second }),
+            _ => collisions::one(&collisions, &Pair { first, second }),
+        }
     } else if let (Some(rows), specs) = (options.rows, options.specs.clone().unwrap_or_default()) {
         validation::one(&validation, &Case { op, specs, second: Second::Rows(rows) })
     } else if options.specs.is_some() || options.items.is_some() {
@@ -162,6 +174,7 @@ fn main() -> ExitCode {
             && (!compares(Part::Groups) || groups::run(groups, options.sample, options.groups))
             && (!compares(Part::Validation) || validation::run(validation, options.sample, options.listings))
             && (!compares(Part::Collisions) || collisions::run(collisions, options.sample, options.pairs))
+            && (!compares(Part::Keys) || keys::run(keys, options.sample, options.keys))
     };
     if passed { ExitCode::SUCCESS } else { ExitCode::FAILURE }
 }
