@@ -74,7 +74,8 @@ fn specs() -> Vec<Vec<u8>> {
     let good = (0..GROWN).map(|n| good(&mut Random::new(SEED, n)));
     let grown = (0..GROWN).map(|n| grown(&mut Random::new(SEED, GROWN + n)));
     let long = LONG.map(around_the_limit).into_iter().filter(|spec| spec.len() < SPEC_LIMIT);
-    let named = NAMED.iter().map(|spec| spec.to_vec());
+    // The key of a push of 2,048 letters is above the limit of a spec.
+    let named = NAMED.iter().chain(KEYS).map(|spec| spec.to_vec()).chain([vec![b'l'; SPEC_LIMIT / 2]]);
     let all = short.chain(named).chain(good).chain(grown.filter(|spec| spec.len() < 1000)).chain(long);
     let set: BTreeSet<_> = all.map(|spec| (spec.len(), spec)).collect();
     set.into_iter().map(|(_, spec)| spec).collect()
@@ -107,6 +108,13 @@ const NAMED: &[&[u8]] = &[
     b"^aaaaaaaaaaaaaaaaaaaaaaaaaaaaaaaaaaaaaaaa",
     b"0123456789abcdefABCDEF0123456789abcdef01:b",
     b"b:0123456789abcdefABCDEF0123456789abcdef01",
+];
+
+/// Specs whose keys are easily taken for each other.
+const KEYS: &[&[u8]] = &[
+    b"a:a", b"+a:a", b"a:b", b"b:a", b"+a:b", b"@:b", b"HEAD:b", b":b", b"+:b", b"::b", b"+::b", b":/fix:b",
+    b"a:b:c", b"++a:b", b"+++a:b", b"++:b", b"+^a:b", b"++a:", b"+a:", b"++.a", b"+.a", b"^+a", b"++a:+a",
+    b"a*:a*", b"+a*",
 ];
 
 /// One record.
@@ -151,6 +159,19 @@ mod tests {
         assert_eq!(record(1, b"a:", oracle::ask(1, b"a:")), b"\x01\x02\x00a:\x00");
         let fetched = record(0, b"+:d", oracle::ask(0, b"+:d"));
         assert_eq!(fetched, b"\x00\x03\x00+:d\x01\x02\x01\x07\x00+HEAD:d\x01\x04\x00HEAD\x01\x04\x00HEAD");
+    }
+
+    #[test]
+    fn texts_that_are_taken_for_each_other_are_there() {
+        let specs = specs();
+        for spec in
+            [b"++a".as_slice(), b"++", b"++.a", b"+", b":", b"+:", b"a", b"a:a", b"@", b"HEAD", b"++:b"]
+        {
+            assert!(specs.iter().any(|recorded| recorded == spec), "{}", spec.escape_ascii());
+        }
+        let half = [b'l'; SPEC_LIMIT / 2];
+        assert!(specs.iter().any(|recorded| *recorded == half));
+        assert!(oracle::ask(1, &half).unwrap().text.len() > SPEC_LIMIT);
     }
 
     #[test]
