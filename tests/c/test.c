@@ -111,6 +111,222 @@ static void writing(void)
     expect(memcmp(out, list, strlen(list)) == 0, "the list of the six");
 }
 
+/* A spec of an operation, and its key. */
+struct keyed {
+    uint64_t op;
+    const char *spec;
+    const char *key;
+};
+
+static const struct keyed KEYED[] = {
+    { VASIGMON_FETCH, "", "HEAD" },
+    { VASIGMON_FETCH, "+", "HEAD" },
+    { VASIGMON_FETCH, ":", "HEAD" },
+    { VASIGMON_FETCH, "+:", "HEAD" },
+    { VASIGMON_FETCH, "@", "HEAD" },
+    { VASIGMON_FETCH, "HEAD", "HEAD" },
+    { VASIGMON_FETCH, "a", "a" },
+    { VASIGMON_FETCH, "+a", "a" },
+    { VASIGMON_FETCH, "+a:", "a" },
+    { VASIGMON_FETCH, "A", "A" },
+    { VASIGMON_FETCH, "++", "+" },
+    { VASIGMON_FETCH, "++a", "+a" },
+    { VASIGMON_FETCH, "++a:", "+a" },
+    { VASIGMON_FETCH, "+++a", "++a" },
+    { VASIGMON_FETCH, "++.a", "+.a" },
+    { VASIGMON_FETCH, "++@", "+@" },
+    { VASIGMON_FETCH, "++HEAD", "+HEAD" },
+    { VASIGMON_FETCH, "a:b", "a:b" },
+    { VASIGMON_FETCH, "a:+b", "a:+b" },
+    { VASIGMON_FETCH, "+a:b", "+a:b" },
+    { VASIGMON_FETCH, "++a:b", "++a:b" },
+    { VASIGMON_FETCH, "++:b", "++:b" },
+    { VASIGMON_FETCH, ":b", "HEAD:b" },
+    { VASIGMON_FETCH, "@:b", "HEAD:b" },
+    { VASIGMON_FETCH, "HEAD:b", "HEAD:b" },
+    { VASIGMON_FETCH, "+:b", "+HEAD:b" },
+    { VASIGMON_FETCH, "a*:b*", "a*:b*" },
+    { VASIGMON_FETCH, "^a", "^a" },
+    { VASIGMON_FETCH, "^+a", "^+a" },
+    { VASIGMON_FETCH, "^a*", "^a*" },
+    { VASIGMON_FETCH, "^@", "^HEAD" },
+    { VASIGMON_FETCH, "^HEAD", "^HEAD" },
+    { VASIGMON_PUSH, ":", ":" },
+    { VASIGMON_PUSH, "+", "+:" },
+    { VASIGMON_PUSH, "+:", "+:" },
+    { VASIGMON_PUSH, "a", "a:a" },
+    { VASIGMON_PUSH, "a:a", "a:a" },
+    { VASIGMON_PUSH, "+a", "+a:a" },
+    { VASIGMON_PUSH, "+a:a", "+a:a" },
+    { VASIGMON_PUSH, "++", "++:+" },
+    { VASIGMON_PUSH, "++a", "++a:+a" },
+    { VASIGMON_PUSH, "++a:+a", "++a:+a" },
+    { VASIGMON_PUSH, "++a:a", "++a:a" },
+    { VASIGMON_PUSH, "++.a", "++.a:+.a" },
+    { VASIGMON_PUSH, "@", "HEAD:HEAD" },
+    { VASIGMON_PUSH, "HEAD", "HEAD:HEAD" },
+    { VASIGMON_PUSH, "@:HEAD", "HEAD:HEAD" },
+    { VASIGMON_PUSH, "+@", "+HEAD:HEAD" },
+    { VASIGMON_PUSH, "a:b", "a:b" },
+    { VASIGMON_PUSH, "b:a", "b:a" },
+    { VASIGMON_PUSH, "::b", "::b" },
+    { VASIGMON_PUSH, "+::b", "+::b" },
+    { VASIGMON_PUSH, ":/fix:b", ":/fix:b" },
+    { VASIGMON_PUSH, "a:b:b", "a:b:b" },
+    { VASIGMON_PUSH, "+^a:b", "+^a:b" },
+    { VASIGMON_PUSH, "++:b", "++:b" },
+    { VASIGMON_PUSH, ":b", ":b" },
+    { VASIGMON_PUSH, "+:b", ":b" },
+    { VASIGMON_PUSH, "a*", "a*:a*" },
+    { VASIGMON_PUSH, "a*:a*", "a*:a*" },
+    { VASIGMON_PUSH, "^a", "^a" },
+    { VASIGMON_PUSH, "^+a", "^+a" },
+    { VASIGMON_PUSH, "^@", "^HEAD" },
+    { VASIGMON_PUSH, "^HEAD", "^HEAD" }
+};
+#define KEYED_COUNT (sizeof KEYED / sizeof KEYED[0])
+
+/* The bytes of a side; null where it is absent. */
+struct side {
+    const char *bytes;
+    size_t length;
+};
+
+/* A side as an answer has it, of which a supplied HEAD is not in the spec. */
+static struct side side_of(const char *spec, uint64_t kind, uint64_t start, uint64_t length)
+{
+    struct side side = { NULL, 0 };
+    if (kind == VASIGMON_PLACE) {
+        side.bytes = spec + start;
+        side.length = (size_t)length;
+    } else if (kind == VASIGMON_SUPPLIED_HEAD) {
+        side.bytes = "HEAD";
+        side.length = 4;
+    }
+    return side;
+}
+
+static int same_side(struct side one, struct side other)
+{
+    return (one.bytes == NULL) == (other.bytes == NULL) && one.length == other.length
+        && (one.length == 0 || memcmp(one.bytes, other.bytes, one.length) == 0);
+}
+
+/* What a spec asks for, or why it is refused. */
+struct asked {
+    uint64_t refusal;
+    uint64_t kind;
+    uint64_t force;
+    struct side source;
+    struct side destination;
+};
+
+static struct asked asked_by(uint64_t op, const char *spec, size_t length)
+{
+    vasigmon_instruction_t it = vasigmon_instruction(op, bytes(spec), length);
+    struct asked asked;
+    asked.refusal = it.refusal;
+    asked.kind = it.kind;
+    asked.force = it.force;
+    asked.source = side_of(spec, it.source, it.source_start, it.source_length);
+    asked.destination = side_of(spec, it.destination, it.destination_start, it.destination_length);
+    return asked;
+}
+
+/* Whether two specs of one operation are accepted and ask for the same. */
+static int ask_the_same(struct asked one, struct asked other)
+{
+    return one.refusal == VASIGMON_ACCEPTED && other.refusal == VASIGMON_ACCEPTED && one.kind == other.kind
+        && one.force == other.force && same_side(one.source, other.source)
+        && same_side(one.destination, other.destination);
+}
+
+/* Whether a call on a spec writes just this text. */
+static int has_key(uint64_t op, const char *spec, const char *key)
+{
+    uint8_t out[32];
+    vasigmon_written written = vasigmon_to_bstring(op, bytes(spec), strlen(spec), out, sizeof out);
+    return written.refusal == VASIGMON_ACCEPTED && written.length == strlen(key) && memcmp(out, key, strlen(key)) == 0;
+}
+
+/* Counts and prints a check that did not hold, of a spec beside a text. */
+static void expect_of(const struct keyed *keyed, const char *beside, int holds, const char *what)
+{
+    if (!holds) {
+        failures += 1;
+        printf("c test: %s %s: %s %s\n", keyed->op == VASIGMON_FETCH ? "fetch" : "push", keyed->spec, what, beside);
+    }
+}
+
+/* Two specs of one operation have one key exactly if they ask for the same. */
+static void keys(void)
+{
+    size_t n, m;
+
+    for (n = 0; n < KEYED_COUNT; n++) {
+        struct asked one = asked_by(KEYED[n].op, KEYED[n].spec, strlen(KEYED[n].spec));
+        expect_of(&KEYED[n], KEYED[n].key, has_key(KEYED[n].op, KEYED[n].spec, KEYED[n].key), "its key is");
+        for (m = 0; m < KEYED_COUNT; m++) {
+            struct asked other = asked_by(KEYED[m].op, KEYED[m].spec, strlen(KEYED[m].spec));
+            if (KEYED[n].op == KEYED[m].op) {
+                expect_of(&KEYED[n], KEYED[m].spec,
+                          (strcmp(KEYED[n].key, KEYED[m].key) == 0) == ask_the_same(one, other),
+                          "one key exactly if it asks for the same as");
+            }
+        }
+    }
+    expect(vasigmon_instruction(VASIGMON_FETCH, bytes("a:b"), 3).kind == VASIGMON_FETCH_AND_UPDATE
+           && vasigmon_instruction(VASIGMON_PUSH, bytes("a:b"), 3).kind == VASIGMON_PUSH_MATCHING,
+           "a:b is the key of a fetch and of a push");
+}
+
+/* A key asks for what its spec does, but for a fetch-only source that begins with +. */
+static void keys_read_back(void)
+{
+    size_t n;
+
+    for (n = 0; n < KEYED_COUNT; n++) {
+        struct asked spec = asked_by(KEYED[n].op, KEYED[n].spec, strlen(KEYED[n].spec));
+        struct asked key = asked_by(KEYED[n].op, KEYED[n].key, strlen(KEYED[n].key));
+        if (spec.kind == VASIGMON_FETCH_ONLY && KEYED[n].key[0] == '+') {
+            expect_of(&KEYED[n], KEYED[n].key, !ask_the_same(spec, key), "something else is asked for by its key");
+        } else {
+            expect_of(&KEYED[n], KEYED[n].key, ask_the_same(spec, key), "the same is asked for by its key");
+            expect_of(&KEYED[n], KEYED[n].key, has_key(KEYED[n].op, KEYED[n].key, KEYED[n].key),
+                      "its key has the key");
+        }
+    }
+    expect(ask_the_same(asked_by(VASIGMON_FETCH, "+a", 2), asked_by(VASIGMON_FETCH, "a", 1)), "fetch +a is only a");
+    expect(ask_the_same(asked_by(VASIGMON_FETCH, "+", 1), asked_by(VASIGMON_FETCH, "HEAD", 4)), "fetch + is HEAD");
+    expect(asked_by(VASIGMON_FETCH, "+.a", 3).refusal == VASIGMON_SOURCE_NAME, "fetch +.a is refused");
+}
+
+/* The key of the first `length` bytes of `spec` has `expected` bytes; within the limit of a
+ * spec it asks for the same, and above it is refused. */
+static void long_key(uint64_t op, const char *spec, size_t length, size_t expected, const char *what)
+{
+    static uint8_t out[8193];
+    vasigmon_written written = vasigmon_to_bstring(op, bytes(spec), length, out, sizeof out);
+    struct asked key = asked_by(op, (const char *)out, (size_t)written.length);
+    expect(written.refusal == VASIGMON_ACCEPTED && written.length == expected, what);
+    expect(expected > 4096 ? key.refusal == VASIGMON_SPEC_TOO_LONG
+                           : ask_the_same(asked_by(op, spec, length), key), what);
+}
+
+static void long_keys(void)
+{
+    char text[4096];
+
+    memset(text, 'a', sizeof text);
+    long_key(VASIGMON_PUSH, text, 2047, 4095, "the key of a push of 2,047 letters");
+    long_key(VASIGMON_PUSH, text, 2048, 4097, "the key of a push of 2,048 letters");
+    long_key(VASIGMON_PUSH, text, 4096, 8193, "the key of a push of 4,096 letters");
+    long_key(VASIGMON_FETCH, text, 4096, 4096, "the key of a fetch of 4,096 letters");
+    text[0] = ':';
+    long_key(VASIGMON_FETCH, text, 4092, 4096, "the key of a fetch of : and 4,091 letters");
+    long_key(VASIGMON_FETCH, text, 4093, 4097, "the key of a fetch of : and 4,092 letters");
+}
+
 /* Whether the report on two specs is this one. */
 static int reports(vasigmon_collision answer, uint64_t refusal, uint64_t which, uint64_t collides, uint64_t length)
 {
@@ -334,6 +550,9 @@ int main(void)
     instructions();
     prefixes();
     writing();
+    keys();
+    keys_read_back();
+    long_keys();
     collisions();
     listings();
     group_prefixes();
