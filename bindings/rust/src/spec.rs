@@ -199,12 +199,35 @@ impl<'a> Spec<'a> {
         list::records(&list).map(<[u8]>::to_vec).collect()
     }
 
-    /// The canonical text of its instruction.
+    /// The canonical text of its instruction, which is a good key for a price list.
+    ///
+    /// Two specs of one operation have equal texts exactly if their [instructions] are equal. A
+    /// text of at most 4,096 bytes, read for that operation, gives an equal instruction. Only
+    /// the text of a fetch-only source that begins with `+` never does. A key is of one
+    /// operation: the fetch `a:b` and the push `a:b` have the same text.
+    ///
+    /// [instructions]: Spec::instruction
     ///
     /// ```
-    /// use vasigmon::{Operation, parse};
+    /// use vasigmon::Operation::{Fetch, Push};
+    /// use vasigmon::parse;
     ///
-    /// assert_eq!(parse(Operation::Push, b"main")?.to_bstring(), b"main:main");
+    /// // One push, written in two ways, has one key. Where it is forced it has another.
+    /// let main = parse(Push, b"main")?;
+    /// let key = main.to_bstring();
+    /// assert_eq!(key, b"main:main");
+    /// assert_eq!(parse(Push, b"main:main")?.to_bstring(), key);
+    /// assert_eq!(parse(Push, b"+main")?.to_bstring(), b"+main:main");
+    ///
+    /// // The key is read back as an equal instruction.
+    /// assert_eq!(parse(Push, &key)?.instruction(), main.instruction());
+    ///
+    /// // Not so the key of a source that begins with `+`: the spec fetches `+a`, its key only `a`.
+    /// let signed = parse(Fetch, b"++a")?;
+    /// assert_eq!(signed.source(), Some(b"+a".as_slice()));
+    /// assert_eq!(signed.to_bstring(), b"+a");
+    /// assert_eq!(parse(Fetch, b"+a")?.source(), Some(b"a".as_slice()));
+    /// assert_ne!(parse(Fetch, b"+a")?.instruction(), signed.instruction());
     /// # Ok::<(), vasigmon::Refusal>(())
     /// ```
     pub fn to_bstring(&self) -> Vec<u8> {
