@@ -29,6 +29,22 @@ static bool fault(const struct answer *answer, const char *way)
     return wanted && strcmp(wanted, name) == 0;
 }
 
+static bool has_plus(const struct answer *answer)
+{
+    return *answer->length > 0 && answer->out[0] == '+';
+}
+
+static bool has_colon(const struct answer *answer)
+{
+    return memchr(answer->out, ':', *answer->length) != NULL;
+}
+
+static void drop_first(const struct answer *answer)
+{
+    *answer->length -= 1;
+    memmove(answer->out, answer->out + 1, *answer->length);
+}
+
 static void spoil(struct answer answer)
 {
     bool accepted = answer.numbers[0] == VASIGMON_ACCEPTED;
@@ -44,6 +60,22 @@ static void spoil(struct answer answer)
     }
     if (fault(&answer, "mark") && accepted) {
         answer.numbers[2] ^= 1;
+    }
+    if (fault(&answer, "unforced") && accepted) {
+        answer.numbers[2] = 0;
+    }
+    if (fault(&answer, "takes-long") && answer.numbers[0] == VASIGMON_SPEC_TOO_LONG) {
+        answer.numbers[0] = VASIGMON_ACCEPTED;
+    }
+    if (fault(&answer, "unsigned") && accepted && has_plus(&answer) && has_colon(&answer)) {
+        drop_first(&answer);
+    }
+    if (fault(&answer, "bare") && accepted && has_plus(&answer) && !has_colon(&answer)) {
+        drop_first(&answer);
+    }
+    if (fault(&answer, "as-given") && accepted && answer.lent_len <= answer.out_len) {
+        *answer.length = answer.lent_len;
+        memcpy(answer.out, answer.lent, answer.lent_len);
     }
     if (fault(&answer, "byte") && accepted && *answer.length > 0) {
         answer.out[*answer.length - 1] ^= 1;

@@ -276,23 +276,6 @@ static void answers_places(const struct call *call, struct cut it, struct meant 
     EXPECT(is_side(prefix_of(spec.remote), prefix.prefix, prefix.start, prefix.length));
 }
 
-/* A canonical text, read again, must ask for the same. One that is too long is refused,
- * and a fetch-only source that begins with a sign loses it. */
-static void reads_again(uint64_t op, struct text text, struct meant spec)
-{
-    if (text.length > 4096 || (spec.kind == VASIGMON_FETCH_ONLY && text.bytes[0] == '+')) {
-        return;
-    }
-    struct cut it = cut_of(text);
-    struct meant again = meant_by(op, it);
-    EXPECT(vasigmon_parse(op, text.bytes, text.length).refusal == VASIGMON_ACCEPTED);
-    EXPECT(again.kind == spec.kind && again.force == spec.force);
-    EXPECT(same(again.source.text, spec.source.text) && same(again.destination.text, spec.destination.text));
-    static uint8_t room[ROOM];
-    vasigmon_written second = vasigmon_to_bstring(op, text.bytes, text.length, room, ROOM);
-    EXPECT(second.refusal == VASIGMON_ACCEPTED && same(text, (struct text){room, second.length}));
-}
-
 int LLVMFuzzerTestOneInput(const uint8_t *data, size_t size)
 {
     static struct pages spec_pages;
@@ -322,7 +305,6 @@ int LLVMFuzzerTestOneInput(const uint8_t *data, size_t size)
     struct bytes canonical = {room, 0};
     put_canonical(&canonical, spec);
     EXPECT(writes(to_bstring, &call, &answer) && same(answer, text_of(canonical)));
-    reads_again(call.op, answer, spec);
     EXPECT(same(call.first, given));
     return 0;
 }
