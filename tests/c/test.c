@@ -151,6 +151,8 @@ static const struct keyed KEYED[] = {
     { VASIGMON_FETCH, "^a*", "^a*" },
     { VASIGMON_FETCH, "^@", "^HEAD" },
     { VASIGMON_FETCH, "^HEAD", "^HEAD" },
+    { VASIGMON_PUSH, "main", "main:main" },
+    { VASIGMON_PUSH, "main:main", "main:main" },
     { VASIGMON_PUSH, ":", ":" },
     { VASIGMON_PUSH, "+", "+:" },
     { VASIGMON_PUSH, "+:", "+:" },
