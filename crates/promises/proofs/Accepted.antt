@@ -15,7 +15,7 @@ use Rattle.meaning.specs.Spec.{accepted, _else_then_, Mode, Normal, Force, Nega
 use Rattle.meaning.specs.Instruction.{instruction, fetchInstruction, pushExclude}
 use Rattle.promises.specs.Accepted.{AcceptedSpec, ReadIsAccepted, ColonHasDestination, GroupIsAccepted, InstructionsOfSides}
 use Rattle.promises.proofs.Members.{group-texts}
-use Rattle.promises.proofs.Sourced.{source-filled, left-source}
+use Rattle.promises.proofs.ReadSources.{no-empty-source, left-source}
 
 -- a question that did not refuse was answered yes, and the later ones did not refuse
 pub asked : (b : Bool) (n rest : ℕ) → 0 < n → (b else n then rest) ≡ 0 → (b ≡ true) × (rest ≡ 0)
@@ -143,7 +143,7 @@ accepted-of op t h p =
       fetch-source = λ e. fetch-has op (modeOf t) (left (sidesOf (unsigned t))) (fetch-is op h e) (p .ten);
       negative-source = λ n. rw n at (p .ten);
       negative-alone = alone;
-      source-filled = λ e. source-filled (left-source op (modeOf t) (left (sidesOf (unsigned t))) [] e);
+      source-filled = λ e. no-empty-source (left-source op (modeOf t) (left (sidesOf (unsigned t))) [] e);
       destination-filled = given-not-empty (right (sidesOf (unsigned t)));
       source-star = p .five;
       destination-star = p .seven;

@@ -1,16 +1,16 @@
 -- The numbers of every row fit, and the listing entries answer the rows' bytes. Assumes nothing.
 use mathlib.Core.Path.{_≡_, refl, ap, _∙_, subst}
 use mathlib.Core.Logic.{_⊎_, inl, inr}
-use mathlib.Core.Bool.{Bool, true, false, not, cond}
+use mathlib.Core.Bool.{Bool, true, false, cond}
 use mathlib.Core.List.{List, [], _∷_, _++_}
 use mathlib.Core.Option.{Option, none, some, Option·map}
 use Prim.Native.Nat.{ℕ, suc, _+_, _≤_, _<_}
 use native.Mathlib.Omega.{arith}
 use lib.Dec.{eqb, lit≤}
 use lib.ListN.{length, length-append, length-drop}
-use Rattle.meaning.specs.Bytes.{Text, bytes, star, _and_, _or_, any, same, begins, each, numbered, lower, objectId, given, In, here, there}
+use Rattle.meaning.specs.Bytes.{Text, bytes, star, _or_, any, same, begins, each, numbered, lower, objectId, given, In, here, there}
 use Rattle.meaning.specs.Limits.{specBytes, nameBytes, mappedBytes, specCount}
-use Rattle.meaning.specs.Spec.{accepted, Mode, Spec, isNegative, modeOf, unsigned, sidesOf, left, right, supplied, named, sourceOf, specFrom, specOf, starred, readSpec}
+use Rattle.meaning.specs.Spec.{accepted, Mode, Spec, isNegative, modeOf, unsigned, sidesOf, left, right, sourceOf, specFrom, specOf, starred, readSpec}
 use Rattle.meaning.specs.Prefix.{beforeStar, candidates}
 use Rattle.meaning.specs.Lists.{readSpecs, readItems}
 use Rattle.meaning.specs.Rows.{Row}
@@ -22,6 +22,7 @@ use Rattle.promises.proofs.Laws.{in-append, keep-in, each-in, numbered-
 use Rattle.promises.proofs.Captures.{capture-is}
 use Rattle.promises.proofs.Splitting.{sides-length, unsigned-length}
 use Rattle.promises.proofs.Members.{group-count, group-texts, names-count, names-short}
+use Rattle.promises.proofs.ReadSources.{Source, source-is}
 use Rattle.promises.proofs.Accepted.{read-passed}
 use Rattle.promises.proofs.Listings.{rowEnds, from-group, forward-made, reverse-made, object-source}
 
@@ -33,17 +34,11 @@ Short o = (t : Text) → o ≡ some t → length t ≤ specBytes
 
 -- a source, of a side that is short
 source-short : (op : ℕ) (m : Mode) (l : Text) → length l ≤ specBytes → Short (sourceOf op m l)
-unfolding supplied named
-source-short op m [] h t e = go (eqb op 0 and not (isNegative m)) e
+source-short op m l h t e = go (source-is op m l t e)
   where
-    go : (b : Bool) → cond b (some (bytes "HEAD")) none ≡ some t → length t ≤ specBytes
-    go true p = let q : bytes "HEAD" ≡ t = cc in rw (← q) (lit≤ tt)
-    go false p = absurd (let z : _≡_ {A = ℕ} 0 1 = cc in omega arith)
-source-short op m (x ∷ l) h t e = go (same (x ∷ l) (bytes "@")) e
-  where
-    go : (b : Bool) → some (cond b (bytes "HEAD") (x ∷ l)) ≡ some t → length t ≤ specBytes
-    go true p = let q : bytes "HEAD" ≡ t = cc in rw (← q) (lit≤ tt)
-    go false p = let q : x ∷ l ≡ t = cc in rw (← q) h
+    go : (t ≡ bytes "HEAD") ⊎ ((t ≡ l) × Source l) → length t ≤ specBytes
+    go (inl q) = rw q (lit≤ tt)
+    go (inr q) = rw (q .0) h
 
 -- a destination
 given-short : (r : Text) → length r ≤ specBytes → Short (given r)

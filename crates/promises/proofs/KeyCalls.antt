@@ -8,14 +8,19 @@ use Rattle.meaning.specs.Spec.{accepted, Spec, readSpec}
 use Rattle.meaning.specs.Instruction.{instruction, canonicalText}
 use Rattle.meaning.specs.Entries.{instructed, toBstring}
 use Rattle.promises.specs.Terms.{OneCall, MetOne, bytesOf, Leaves}
-use Rattle.promises.specs.KeyCalls.{KeyTold, KeysToldExactly, KeysToldReadBack, LongKeysTold, PlusNeverToldBack}
-use Rattle.promises.proofs.Leaving.{one-accepted, same-one, one-leaves, one-turned}
+use Rattle.promises.specs.KeyCalls.{KeyAnswered, KeyTold, KeysToldExactly, KeysToldReadBack, LongKeysTold, PlusNeverToldBack, KeysTold}
+use Rattle.promises.proofs.Leaving.{one-accepted, same-one, one-leaves, one-answers, one-turned}
 use Rattle.promises.proofs.Refusals.{and-accepted, to-bstring-above}
 use Rattle.promises.proofs.Keys.{every-accepted-has-key, keys-exactly, keys-read-back, long-keys-refused, plus-never-reads-back}
 
 -- a call on an accepted spec that tells no refusal leaves its key
 pub text-leaves : (op : ℕ) (t : Text) (s : Spec) (c : OneCall) → readSpec op t ≡ accepted s → MetOne (toBstring op t) c → c .refusal ≡ 0 → Leaves (c .before) (c .after) (canonicalText op s) (c .size)
 text-leaves op t s c e m z = one-leaves (toBstring op t) (canonicalText op s) c (every-accepted-has-key op t s e .1) m z
+
+pub key-answered : KeyAnswered
+key-answered op t s c e m h =
+    let z = one-answers (toBstring op t) (canonicalText op s) c (every-accepted-has-key op t s e .1) m h in
+    (z, text-leaves op t s c e m z)
 
 pub key-told : KeyTold
 unfolding toBstring
@@ -62,5 +67,17 @@ pub plus-never-told-back : PlusNeverToldBack
 plus-never-told-back op t s c e m z b =
     let l = text-leaves op t s c e m z in
     let k = every-accepted-has-key op t s e .0 in
-    let never : instructed op (bytesOf c) ≡ instructed op t → ⊥ = λ q. plus-never-reads-back op t s e b (ap (instructed op) (sym (l .front)) ∙ q ∙ k) in
+    let never : instructed op (bytesOf c) ≡ instructed op t → ⊥ = λ q. plus-never-reads-back op s b (ap (instructed op) (sym (l .front)) ∙ q ∙ k) in
     (never, λ d n y q. never (keys-told-exactly op (bytesOf c) t d c n y m z .0 q))
+
+-- all of it
+pub keys-told : KeysTold
+keys-told =
+    record {
+      key-answered = key-answered;
+      key-told = key-told;
+      keys-told-exactly = keys-told-exactly;
+      keys-told-read-back = keys-told-read-back;
+      long-keys-told = long-keys-told;
+      plus-never-told-back = plus-never-told-back;
+    }

@@ -2,19 +2,22 @@
 use Prim.Native.Nat.{ℕ, _/_, _≤_}
 use native.Mathlib.Omega.{arith}
 use mathlib.Core.Path.{_≡_, refl, sym, ap, _∙_}
+use mathlib.Core.Logic.{_↔_, _⊎_, inl, inr}
 use mathlib.Core.Bool.{true, false, false≢true}
 use mathlib.Core.List.{List, [], _∷_, _++_}
 use mathlib.Core.Option.{Option, none, some}
 use lib.Dec.{lit≤, lit<}
 use lib.ListN.{length, replicate}
-use Rattle.meaning.specs.Bytes.{Text, bytes}
+use Rattle.meaning.specs.Bytes.{Text, bytes, byte, colon, In, here}
 use Rattle.meaning.specs.Limits.{specBytes}
 use Rattle.meaning.specs.Spec.{Answer, accepted, refused, Normal, Force, Spec, readSpec}
 use Rattle.meaning.specs.Instruction.{instruction, canonicalText}
 use Rattle.meaning.specs.Rows.{Row}
 use Rattle.meaning.specs.Everything.{everything}
 use Rattle.promises.specs.Accepted.{AcceptedSpec}
-use Rattle.promises.specs.KeyVariants.{KeysAcrossOperations, KeysOfEqualSpecs, KeysOfAnySpecs, KeysWithoutForce, updates, SameKeysInPush, TellsApart, ApartIsEnough, TogetherIsEnough, ReadBackOfAnyLength, KeysFit, ReadBackOfAnySource, ReadBackIsAccepted, NoPlusReadsBack, ReadBackIsTheSame, KeysToldThoughRefused, KeysToldOfBuffer, FalseKeyVariants, KeyCallsMet}
+use Rattle.promises.specs.KeyVariants.{KeysAcrossOperations, KeysOfEqualSpecs, KeysOfAnySpecs, KeysWithoutForce, SameKeysInPush, SameKeysInAnyPlace, TellsApart, ApartIsEnough, TogetherIsEnough, ReadBackOfAnyLength, KeysFit, ReadBackOfAnySource, ReadBackIsAccepted, NoPlusReadsBack, ReadBackIsTheSame, KeysToldThoughRefused, KeysToldOfBuffer, FalseKeyVariants, KeyCallsMet}
+use Rattle.promises.proofs.Laws.{in-left, in-cons}
+use Rattle.promises.proofs.Keys.{every-accepted-has-key}
 use Rattle.promises.proofs.Refusals.{refused-accepted}
 use Rattle.promises.proofs.Accepted.{read-is-accepted}
 use Rattle.promises.proofs.Plain.{specIs}
@@ -74,7 +77,7 @@ any-specs f =
 without-force : KeysWithoutForce → ⊥
 unfolding everything
 without-force f =
-    let e = f 0 (bytes "a:b") (bytes "+a:b") (twoSided Normal (bytes "a") (bytes "b")) (twoSided Force (bytes "a") (bytes "b")) refl refl (updates (bytes "a") (bytes "b") false true) in
+    let e = f 0 (bytes "a:b") (bytes "+a:b") (twoSided Normal (bytes "a") (bytes "b")) (twoSided Force (bytes "a") (bytes "b")) refl refl .1 refl in
     omega (arith, ap (λ (t : Text). length t) e)
 
 -- the destination of the first row
@@ -86,6 +89,21 @@ firstDestination (r ∷ l) = r .destination
 in-push : SameKeysInPush → ⊥
 unfolding everything
 in-push f = some-none (sym (ap firstDestination (f (bytes "a") (bytes "a:a") (only (bytes "a")) (twoSided Normal (bytes "a") (bytes "a")) (bytes "refs/heads/a" ∷ []) refl refl refl)))
+
+-- `a`, and `a` twice, have the same keys
+once-twice : (k : Text) → In k (bytes "a" ∷ []) ↔ In k (bytes "a" ∷ bytes "a" ∷ [])
+once-twice k = ((λ m. in-left (bytes "a" ∷ []) m), (λ m. go (in-cons m)))
+  where
+    go : (k ≡ bytes "a") ⊎ In k (bytes "a" ∷ []) → In k (bytes "a" ∷ [])
+    go (inl q) = rw q here
+    go (inr m) = m
+
+in-any-place : SameKeysInAnyPlace → ⊥
+unfolding everything
+in-any-place f =
+    let s = only (bytes "a") in
+    let e = f (1 ∷ bytes "a") (1 ∷ 97 ∷ 1 ∷ bytes "a") (s ∷ []) (s ∷ s ∷ []) (bytes "a" ∷ []) refl refl once-twice in
+    omega (arith, ap (λ (l : List Row). length l) e)
 
 -- One direction alone
 
@@ -114,7 +132,7 @@ together-enough f =
 
 -- a push of so many letters that its key is longer than a spec may be
 abbrev long : Text
-long = replicate (specBytes / 2) 97
+long = replicate (specBytes / 2) (byte "a")
 
 long-read : readSpec 1 long ≡ accepted (only long)
 unfolding everything
@@ -183,6 +201,7 @@ false-key-variants =
       keys-of-any-specs = any-specs;
       keys-without-force = without-force;
       same-keys-in-push = in-push;
+      same-keys-in-any-place = in-any-place;
       apart-is-enough = apart-enough;
       together-is-enough = together-enough;
       read-back-of-any-length = any-length;
@@ -203,10 +222,16 @@ key-calls-met =
       one-sided = writing (bytes "a:a") (bytes "wxyz");
       one-sided-met = writing-met _ (bytes "a:a") (bytes "wxyz") refl (lit≤ tt);
       one-sided-done = (refl, refl);
+      two-sided = writing (bytes "a:a") (bytes "wxyz");
+      two-sided-met = writing-met _ (bytes "a:a") (bytes "wxyz") refl (lit≤ tt);
+      two-sided-done = (refl, refl);
       exception = writing (bytes "+a") (bytes "wxyz");
       exception-met = writing-met _ (bytes "+a") (bytes "wxyz") refl (lit≤ tt);
       exception-done = (refl, refl);
       again = writing (bytes "a") (bytes "wxyz");
       again-met = writing-met _ (bytes "a") (bytes "wxyz") refl (lit≤ tt);
       again-done = (refl, refl);
+      long = writing (long ++ (colon ∷ long)) (long ++ (colon ∷ long));
+      long-met = writing-met _ (long ++ (colon ∷ long)) (long ++ (colon ∷ long)) (every-accepted-has-key 1 long (only long) long-read .1) (omega arith);
+      long-done = (refl, refl);
     }

@@ -1,24 +1,27 @@
 -- Canonical texts are keys: document 02, W13. A text tells its instruction, so equal texts have equal instructions. Assumes nothing.
 use mathlib.Core.Path.{_≡_, refl, sym, ap, _∙_}
+use mathlib.Core.Logic.{_⊎_, inl, inr}
 use mathlib.Core.Bool.{Bool, true, false, not, cond, false≢true}
 use mathlib.Core.List.{List, [], _∷_, _++_, map}
+use mathlib.Core.Option.{Option, none, some}
 use Prim.Native.Nat.{ℕ}
 use native.Mathlib.Omega.{arith}
 use borrow.Author.Tests.{le-leb, lt-leb, eqb-true}
 use lib.Dec.{eqb}
 use lib.ListN.{length}
-use Rattle.meaning.specs.Bytes.{Text, bytes, plus, colon, _and_, same, begins, hasByte, orEmpty, In, here, there}
+use Rattle.meaning.specs.Bytes.{Text, bytes, plus, colon, _and_, begins, hasByte, orEmpty, In, here, there}
 use Rattle.meaning.specs.Limits.{specBytes}
-use Rattle.meaning.specs.Spec.{accepted, Force, Spec, modeOfByte, supplied, named, sourceOf, specFrom, specOf, specRefusal, readSpec}
-use Rattle.meaning.specs.Instruction.{Instruction, fetchOnly, fetchExclude, fetchAndUpdate, pushAllMatchingBranches, pushDelete, pushMatching, pushExclude, instruction, instructionText, canonicalText}
+use Rattle.meaning.specs.Spec.{accepted, Mode, Normal, Force, Negative, Spec, push, modeOfByte, sidesOf, left, sourceOf, specFrom, specOf, specRefusal, readSpec}
+use Rattle.meaning.specs.Instruction.{Instruction, fetchOnly, fetchExclude, fetchAndUpdate, pushAllMatchingBranches, pushDelete, pushMatching, pushExclude, fetchInstruction, pushSides, pushInstruction, instruction, instructionText, canonicalText}
 use Rattle.meaning.specs.Entries.{instructed, toBstring}
 use Rattle.promises.specs.Terms.{canonicalTexts, plusOnly}
-use Rattle.promises.specs.Keys.{EveryAcceptedHasKey, KeysExactly, KeysReadBack, LongKeysRefused, PlusNeverReadsBack, SameKeysSameMeaning}
+use Rattle.promises.specs.Keys.{EveryAcceptedHasKey, KeysExactly, KeysReadBack, LongKeysRefused, PlusNeverReadsBack, SameKeysSameMeaning, Keys}
 use Rattle.promises.proofs.Laws.{and-left, or-right}
-use Rattle.promises.proofs.Splitting.{sides-one}
+use Rattle.promises.proofs.Splitting.{sides-length}
+use Rattle.promises.proofs.ReadSources.{Source, source-is}
 use Rattle.promises.proofs.Accepted.{read-passed, read-is-accepted}
 use Rattle.promises.proofs.Refusals.{and-accepted}
-use Rattle.promises.proofs.Clean.{Clean, clean-colon}
+use Rattle.promises.proofs.Clean.{clean-colon}
 use Rattle.promises.proofs.Members.{group-texts}
 use Rattle.promises.proofs.Calm.{calm}
 use Rattle.promises.proofs.Canonical.{calm-plain, same-meaning}
@@ -94,33 +97,64 @@ long-keys-refused op t s e n = rw (le-leb op 1 (read-is-accepted op t s e .opera
 
 -- Fetch-only with `+` is never read back
 
--- what follows a `+` is another source
-shorter : (t : Text) → orEmpty (sourceOf 0 Force t) ≡ plus ∷ t → ⊥
-unfolding supplied named
-shorter [] e = let z : _≡_ {A = ℕ} 72 43 = cc in omega arith
-shorter (x ∷ t) e = go (same (x ∷ t) (bytes "@")) e
-  where
-    go : (b : Bool) → cond b (bytes "HEAD") (x ∷ t) ≡ plus ∷ x ∷ t → ⊥
-    go true p = let z : _≡_ {A = ℕ} 72 43 = cc in omega arith
-    go false p = omega (arith, ap length p)
+-- the source in an instruction; no bytes where it has none
+abbrev sourceIn : Instruction → Text
+sourceIn (fetchOnly src) = src
+sourceIn (fetchExclude src) = src
+sourceIn (fetchAndUpdate src dst force) = src
+sourceIn (pushAllMatchingBranches force) = []
+sourceIn (pushDelete dst) = []
+sourceIn (pushMatching src dst force) = src
+sourceIn (pushExclude src) = src
 
--- a text with `+` and no colon means what follows the `+`
-plus-means : (t : Text) → hasByte colon t ≡ false → instruction 0 (specOf 0 (plus ∷ t)) ≡ fetchOnly (orEmpty (sourceOf 0 Force t))
-unfolding instruction specOf specFrom modeOfByte
-plus-means t h = rw (sides-one t h)
+-- is that of the spec
+fetch-source : (m : Mode) (src : Text) (dst : Option Text) → sourceIn (fetchInstruction m src dst) ≡ src
+fetch-source Negative src dst = refl
+fetch-source Normal src none = refl
+fetch-source Normal src (some dst) = refl
+fetch-source Force src none = refl
+fetch-source Force src (some dst) = refl
+
+sides-source : (force : Bool) (src dst : Option Text) → sourceIn (pushSides force src dst) ≡ orEmpty src
+sides-source force none none = refl
+sides-source force none (some dst) = refl
+sides-source force (some src) none = refl
+sides-source force (some src) (some dst) = refl
+
+push-source : (m : Mode) (src dst : Option Text) → sourceIn (pushInstruction m src dst) ≡ orEmpty src
+push-source Negative src dst = refl
+push-source Normal src dst = sides-source false src dst
+push-source Force src dst = sides-source true src dst
+
+instruction-source : (op : ℕ) (s : Spec) → sourceIn (instruction op s) ≡ orEmpty (s .source)
+unfolding instruction
+instruction-source op s = go (push op)
+  where
+    go : (b : Bool) → sourceIn (cond b (pushInstruction (s .mode) (s .source) (s .destination)) (fetchInstruction (s .mode) (orEmpty (s .source)) (s .destination))) ≡ orEmpty (s .source)
+    go true = push-source (s .mode) (s .source) (s .destination)
+    go false = fetch-source (s .mode) (orEmpty (s .source)) (s .destination)
+
+-- what is meant by a text after a `+` is another source than both
+plus-apart : (op : ℕ) (t : Text) → orEmpty (sourceOf op Force (left (sidesOf t))) ≡ plus ∷ t → ⊥
+plus-apart op t e = go (sourceOf op Force (left (sidesOf t))) refl e
+  where
+    other : (x : Text) → (x ≡ bytes "HEAD") ⊎ ((x ≡ left (sidesOf t)) × Source (left (sidesOf t))) → x ≡ plus ∷ t → ⊥
+    other x (inl q) p = let z : _≡_ {A = ℕ} 72 43 = cc in omega arith
+    other x (inr q) p = omega (arith, sides-length t, ap (λ (l : Text). length l) (sym (q .0) ∙ p))
+
+    go : (o : Option Text) → sourceOf op Force (left (sidesOf t)) ≡ o → orEmpty o ≡ plus ∷ t → ⊥
+    go none h p = let z : _≡_ {A = ℕ} 0 1 = cc in omega arith
+    go (some x) h p = other x (source-is op Force (left (sidesOf t)) x h) p
 
 -- a text that begins with `+`
-plus-first : (src : Text) → begins (bytes "+") src ≡ true → (t : Text) × (src ≡ plus ∷ t)
-plus-first [] e = absurd (false≢true e)
-plus-first (x ∷ t) e = let p : plus ≡ x = eqb-true plus x (and-left (eqb plus x) true e) in (t, rw p)
+begins-plus : (src : Text) → begins (bytes "+") src ≡ true → (t : Text) × (src ≡ plus ∷ t)
+begins-plus [] e = absurd (false≢true e)
+begins-plus (x ∷ t) e = let p : plus ≡ x = eqb-true plus x (and-left (eqb plus x) true e) in (t, rw p)
 
--- so it does not mean itself
-plus-apart : (src : Text) → Clean src → begins (bytes "+") src ≡ true → instruction 0 (specOf 0 src) ≡ fetchOnly src → ⊥
-plus-apart src h b e =
-    let f = plus-first src b in
-    let n : hasByte colon (plus ∷ f .0) ≡ false = rw (f .1) at (clean-colon src h) in
-    let q : fetchOnly (orEmpty (sourceOf 0 Force (f .0))) ≡ fetchOnly (plus ∷ f .0) = sym (plus-means (f .0) n) ∙ (rw (f .1) at e) in
-    shorter (f .0) cc
+-- does not mean itself as a source
+plus-means : (op : ℕ) (t : Text) → orEmpty (specOf op (plus ∷ t) .source) ≡ plus ∷ t → ⊥
+unfolding specOf specFrom modeOfByte
+plus-means op t e = plus-apart op t e
 
 -- the instruction that a text reads as is that of what it means
 instructed-means : (op : ℕ) (t : Text) (i : Instruction) → instructed op t ≡ accepted i → instruction op (specOf op t) ≡ i
@@ -130,16 +164,14 @@ instructed-means op t i e =
     let u : instruction op (s .0) ≡ i = cc (s .2) in
     ap (instruction op) (read-passed op t (s .0) (s .1) .spec-is) ∙ u
 
--- the text of a fetch-only with `+` does not mean its instruction
-plus-never : (op : ℕ) (i : Instruction) → Fine op i → plusOnly i ≡ true → instruction op (specOf op (instructionText i)) ≡ i → ⊥
-plus-never op i h b e =
-    let q = plus-only i b in
-    let f : Fine op (fetchOnly (q .0)) = rw (q .1) at h in
-    plus-apart (q .0) (f .1) (q .2) (rw (q .1, f .0) at e)
-
 pub plus-never-reads-back : PlusNeverReadsBack
 unfolding canonicalText
-plus-never-reads-back op t s e b f = plus-never op (instruction op s) (readable op t s e .is-fine) b (instructed-means op _ _ f)
+plus-never-reads-back op s b f =
+    let q = plus-only (instruction op s) b in
+    let k = begins-plus (q .0) (q .2) in
+    let e : instructed op (plus ∷ k .0) ≡ accepted (fetchOnly (plus ∷ k .0)) = rw (q .1, k .1) at f in
+    let m = instructed-means op (plus ∷ k .0) (fetchOnly (plus ∷ k .0)) e in
+    plus-means op (k .0) (sym (instruction-source op (specOf op (plus ∷ k .0))) ∙ ap sourceIn m)
 
 -- Groups with the same keys
 
@@ -161,3 +193,15 @@ all-calm (s ∷ group) (r ∷ group′) h k q =
 
 pub same-keys-same-meaning : SameKeysSameMeaning
 same-keys-same-meaning specs specs′ group group′ e f q = same-meaning specs specs′ group group′ e f (all-calm group group′ (group-texts 0 specs group e) (group-texts 0 specs′ group′ f) q)
+
+-- all of it
+pub keys : Keys
+keys =
+    record {
+      every-accepted-has-key = every-accepted-has-key;
+      keys-exactly = keys-exactly;
+      keys-read-back = keys-read-back;
+      long-keys-refused = long-keys-refused;
+      plus-never-reads-back = plus-never-reads-back;
+      same-keys-same-meaning = same-keys-same-meaning;
+    }

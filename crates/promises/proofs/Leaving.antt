@@ -6,7 +6,7 @@ use mathlib.Core.Bool.{Bool, true, false, cond}
 use mathlib.Core.List.{List, [], _∷_, _++_}
 use mathlib.Core.Logic.{_↔_, _⊎_, inl, inr}
 use mathlib.Core.Option.{Option, none, some}
-use borrow.Author.Tests.{leb-true, leb-false}
+use borrow.Author.Tests.{le-leb, leb-true, leb-false}
 use lib.Dec.{leb}
 use lib.ListN.{length, drop, length-append, length-drop}
 use lib.Seq.{take-append-seam, drop-append-seam}
@@ -63,6 +63,13 @@ one-leaves a b c e m z =
     go : (x : Bool) → leb (length b) (length (c .before)) ≡ x → c .after ∷ [] ≡ buffersAfter (cond x (writes (some b ∷ [])) (short 1 (length b))) (c .before ∷ []) → Tells (cond x (writes (some b ∷ [])) (short 1 (length b))) (m .told) → Leaves (c .before) (c .after) b (c .size)
     go true x p t = over-front (c .before) (c .after) b (c .size) (leb-true _ _ x) (ap firstIn p) (rw (t .lengths-are) at (m .size-is))
     go false x p t = absurd (omega (arith, t .refusal-is, m .refusal-is))
+
+-- a buffer that is long enough is no reason to refuse
+pub one-answers : (a : Answer Outputs) (b : Text) (c : OneCall) → a ≡ accepted (some b ∷ []) → MetOne a c → length b ≤ length (c .before) → c .refusal ≡ 0
+one-answers a b c e m h =
+    let n : Meets (accepted (some b ∷ [])) (c .before ∷ []) (c .after ∷ []) (m .told) = rw e at (m .meets) in
+    let t : Tells (writes (some b ∷ [])) (m .told) = rw (le-leb (length b) (length (c .before)) h) at (n .tells) in
+    m .refusal-is ∙ t .refusal-is
 
 -- after a refusal
 pub one-turned : (n : ℕ) (k : Option ℕ) (c : OneCall) → MetOne (refused n k) c → (c .refusal ≡ n) × (c .after ≡ c .before)

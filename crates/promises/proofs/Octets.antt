@@ -1,16 +1,17 @@
 -- The sides of a spec are byte strings where its text is one. Assumes nothing.
 use mathlib.Core.Path.{_≡_, refl, sym, ap, _∙_}
-use mathlib.Core.Bool.{Bool, true, false, not, cond}
+use mathlib.Core.Logic.{_⊎_, inl, inr}
+use mathlib.Core.Bool.{Bool, true}
 use mathlib.Core.List.{[], _∷_, _++_}
-use mathlib.Core.Option.{none, some}
+use mathlib.Core.Option.{some}
 use Prim.Native.Nat.{ℕ}
 use native.Mathlib.Omega.{arith}
-use lib.Dec.{eqb}
-use Rattle.meaning.specs.Bytes.{Text, bytes, colon, _and_, every, same, given}
-use Rattle.meaning.specs.Spec.{accepted, Mode, Normal, Force, Negative, Spec, isNegative, modeOfByte, modeOf, signOff, unsigned, Sides, one, two, sidesOf, left, right, supplied, named, sourceOf, specFrom, specOf, readSpec}
+use Rattle.meaning.specs.Bytes.{Text, bytes, colon, every, given}
+use Rattle.meaning.specs.Spec.{accepted, Mode, Normal, Force, Negative, Spec, modeOfByte, modeOf, signOff, unsigned, Sides, one, two, sidesOf, left, right, sourceOf, specFrom, specOf, readSpec}
 use Rattle.promises.specs.Facts.{isByte}
 use Rattle.promises.proofs.Laws.{and-right, every-left, every-right}
 use Rattle.promises.proofs.Splitting.{last-colon}
+use Rattle.promises.proofs.ReadSources.{Source, source-is}
 use Rattle.promises.proofs.Accepted.{read-passed}
 
 -- a byte string
@@ -39,17 +40,11 @@ sides-octets t h = go (sidesOf t) refl
 
 -- what a left side means
 source-octets : (op : ℕ) (m : Mode) (l src : Text) → octets l ≡ true → sourceOf op m l ≡ some src → octets src ≡ true
-unfolding supplied named
-source-octets op m [] src h e = go (eqb op 0 and not (isNegative m)) e
+source-octets op m l src h e = go (source-is op m l src e)
   where
-    go : (b : Bool) → cond b (some (bytes "HEAD")) none ≡ some src → octets src ≡ true
-    go true p = let q : bytes "HEAD" ≡ src = cc in ap octets (sym q)
-    go false p = absurd (let z : _≡_ {A = ℕ} 0 1 = cc in omega arith)
-source-octets op m (x ∷ t) src h e = let q : named (x ∷ t) ≡ src = cc in go (same (x ∷ t) (bytes "@")) q
-  where
-    go : (b : Bool) → cond b (bytes "HEAD") (x ∷ t) ≡ src → octets src ≡ true
-    go true p = ap octets (sym p)
-    go false p = ap octets (sym p) ∙ h
+    go : (src ≡ bytes "HEAD") ⊎ ((src ≡ l) × Source l) → octets src ≡ true
+    go (inl q) = rw q
+    go (inr q) = rw (q .0) h
 
 -- and a right side
 given-octets : (r dst : Text) → octets r ≡ true → given r ≡ some dst → octets dst ≡ true

@@ -17,7 +17,7 @@ use Rattle.promises.proofs.Laws.{or-right}
 use Rattle.promises.proofs.Splitting.{sides-one, sides-two}
 use Rattle.promises.proofs.Accepted.{Passed, pass, read-passed, read-is-accepted, present-is, fetch-is}
 use Rattle.promises.proofs.Clean.{Clean, side-clean, given-self, clean-colon, clean-normal}
-use Rattle.promises.proofs.Sourced.{Source, source, clean-source, source-again, no-sign-off, read-source, normal-source}
+use Rattle.promises.proofs.ReadSources.{Source, source, clean-source, source-again, no-sign-off, read-source, normal-source}
 
 -- a spec, written short
 abbrev pub specIs : Mode → Option Text → Option Text → Spec

@@ -1,10 +1,11 @@
 -- What calls for canonical texts leave as keys: document 02, W13. The contract of the entry says that a call meets its answer; the buffer
--- and the numbers told are any that do. What `instructed` answers, a call for the instruction answers. The words are defined in Terms,
--- the proofs stand in proofs/KeyCalls.
+-- and the numbers told are any that do. A call for the instruction answers places; that they mean what `instructed` says, and what this
+-- makes of the statements here, stands in crate `refspec`. The words are defined in Terms, the proofs stand in proofs/KeyCalls.
 use Prim.Native.Nat.{ℕ, _≤_, _<_}
 use mathlib.Core.Path.{_≡_}
 use mathlib.Core.Logic.{_↔_}
 use mathlib.Core.Bool.{true, false}
+use lib.ListN.{length}
 use Rattle.meaning.specs.Bytes.{Text}
 use Rattle.meaning.specs.Limits.{specBytes}
 use Rattle.meaning.specs.Spec.{accepted, Spec, readSpec}
@@ -12,7 +13,16 @@ use Rattle.meaning.specs.Instruction.{instruction, canonicalText}
 use Rattle.meaning.specs.Entries.{instructed, toBstring}
 use Rattle.promises.specs.Terms.{plusOnly, OneCall, MetOne, bytesOf, Leaves}
 
--- "[..] for every accepted spec of either operation [..]": a call that tells no refusal was given one, and leaves its key.
+-- "[..] for every accepted spec of either operation [..]": a call on one leaves its key, if the buffer is long enough for it.
+abbrev pub KeyAnswered : Type 0
+KeyAnswered =
+    (op : ℕ) (t : Text) (s : Spec) (c : OneCall)
+    → readSpec op t ≡ accepted s
+    → MetOne (toBstring op t) c
+    → length (canonicalText op s) ≤ length (c .before)
+    → (c .refusal ≡ 0) × Leaves (c .before) (c .after) (canonicalText op s) (c .size)
+
+-- And a call that tells no refusal was given an accepted spec, and leaves its key.
 abbrev pub KeyTold : Type 0
 KeyTold =
     (op : ℕ) (t : Text) (c : OneCall)
@@ -21,7 +31,7 @@ KeyTold =
     → (s : Spec) × (readSpec op t ≡ accepted s) × Leaves (c .before) (c .after) (canonicalText op s) (c .size)
 
 -- "For two accepted specs of one operation the texts are equal exactly if the instructions are [..]."
--- Two such calls answer the same bytes exactly if calls for the instructions answer the same.
+-- Two such calls answer the same bytes exactly if the instructions of the two texts are equal.
 abbrev pub KeysToldExactly : Type 0
 KeysToldExactly =
     (op : ℕ) (t u : Text) (c d : OneCall)
@@ -63,3 +73,12 @@ PlusNeverToldBack =
     → c .refusal ≡ 0
     → plusOnly (instruction op s) ≡ true
     → (instructed op (bytesOf c) ≡ instructed op t → ⊥) × ((d : OneCall) → MetOne (toBstring op (bytesOf c)) d → d .refusal ≡ 0 → bytesOf d ≡ bytesOf c → ⊥)
+
+-- all of it
+pub record KeysTold : Type 0 where
+  pub key-answered : KeyAnswered
+  pub key-told : KeyTold
+  pub keys-told-exactly : KeysToldExactly
+  pub keys-told-read-back : KeysToldReadBack
+  pub long-keys-told : LongKeysTold
+  pub plus-never-told-back : PlusNeverToldBack

@@ -1,19 +1,20 @@
 -- False variants of document 02, W13: statements near it. FalseKeyVariants says that none of them holds.
-use Prim.Native.Nat.{ℕ, _≤_}
+use Prim.Native.Nat.{ℕ, _+_, _/_, _≤_}
 use mathlib.Core.Path.{_≡_}
 use mathlib.Core.Logic.{_↔_}
-use mathlib.Core.Bool.{Bool, true, false}
+use mathlib.Core.Bool.{true, false}
 use mathlib.Core.List.{List, [], _∷_}
 use mathlib.Core.Option.{some}
-use lib.ListN.{length}
-use Rattle.meaning.specs.Bytes.{Text, bytes, begins}
+use lib.ListN.{length, replicate}
+use Rattle.meaning.specs.Bytes.{Text, bytes, byte, begins, In}
 use Rattle.meaning.specs.Limits.{specBytes}
 use Rattle.meaning.specs.Spec.{accepted, Spec, readSpec}
-use Rattle.meaning.specs.Instruction.{Instruction, fetchAndUpdate, pushAllMatchingBranches, pushMatching, instruction, canonicalText}
+use Rattle.meaning.specs.Instruction.{instruction, canonicalText}
+use Rattle.meaning.specs.Lists.{readSpecs}
 use Rattle.meaning.specs.Listing.{forwardRows}
 use Rattle.meaning.specs.Entries.{instructed, toBstring}
 use Rattle.promises.specs.Accepted.{AcceptedSpec}
-use Rattle.promises.specs.Terms.{plusOnly, OneCall, MetOne, bytesOf}
+use Rattle.promises.specs.Terms.{canonicalTexts, plusOnly, unforced, OneCall, MetOne, bytesOf}
 
 -- Equal keys
 
@@ -39,20 +40,13 @@ KeysOfEqualSpecs =
 abbrev pub KeysOfAnySpecs : Type 0
 KeysOfAnySpecs = (op : ℕ) (s r : Spec) → AcceptedSpec op s → AcceptedSpec op r → canonicalText op s ≡ canonicalText op r → instruction op s ≡ instruction op r
 
--- two instructions, but for whether they allow a non-fast-forward
-pub data ButForForce : Instruction → Instruction → Type 0 where
-  updates : (src dst : Text) (force force′ : Bool) → ButForForce (fetchAndUpdate src dst force) (fetchAndUpdate src dst force′)
-  branches : (force force′ : Bool) → ButForForce (pushAllMatchingBranches force) (pushAllMatchingBranches force′)
-  pushes : (src dst : Text) (force force′ : Bool) → ButForForce (pushMatching src dst force) (pushMatching src dst force′)
-
--- the instructions are compared without it
+-- the instructions are compared without what they allow
 abbrev pub KeysWithoutForce : Type 0
 KeysWithoutForce =
     (op : ℕ) (t u : Text) (s r : Spec)
     → readSpec op t ≡ accepted s
     → readSpec op u ≡ accepted r
-    → ButForForce (instruction op s) (instruction op r)
-    → canonicalText op s ≡ canonicalText op r
+    → (canonicalText op s ≡ canonicalText op r) ↔ (unforced (instruction op s) ≡ unforced (instruction op r))
 
 -- two pushes with one key have the same rows
 abbrev pub SameKeysInPush : Type 0
@@ -62,6 +56,15 @@ SameKeysInPush =
     → readSpec 1 u ≡ accepted r
     → canonicalText 1 s ≡ canonicalText 1 r
     → forwardRows (s ∷ []) names ≡ forwardRows (r ∷ []) names
+
+-- the keys of two fetch groups are the same, in whatever places
+abbrev pub SameKeysInAnyPlace : Type 0
+SameKeysInAnyPlace =
+    (specs specs′ : Text) (group group′ : List Spec) (names : List Text)
+    → readSpecs 0 specs ≡ accepted group
+    → readSpecs 0 specs′ ≡ accepted group′
+    → ((k : Text) → In k (canonicalTexts group) ↔ In k (canonicalTexts group′))
+    → forwardRows group names ≡ forwardRows group′ names
 
 -- One direction alone
 
@@ -168,6 +171,7 @@ pub record FalseKeyVariants : Type 0 where
   pub keys-of-any-specs : KeysOfAnySpecs → ⊥
   pub keys-without-force : KeysWithoutForce → ⊥
   pub same-keys-in-push : SameKeysInPush → ⊥
+  pub same-keys-in-any-place : SameKeysInAnyPlace → ⊥
   pub apart-is-enough : ApartIsEnough → ⊥
   pub together-is-enough : TogetherIsEnough → ⊥
   pub read-back-of-any-length : ReadBackOfAnyLength → ⊥
@@ -179,15 +183,21 @@ pub record FalseKeyVariants : Type 0 where
   pub keys-told-though-refused : KeysToldThoughRefused → ⊥
   pub keys-told-of-buffer : KeysToldOfBuffer → ⊥
 
--- the statements speak of something: a call that leaves the key of a push with one side; one that leaves the key of an exception, and one on
--- that key, which leaves another
+-- the statements speak of something: calls that leave one key for two spellings of a push; one that leaves the key of an exception, and one
+-- on that key, which leaves another; and one that leaves a key above the limit
 pub record KeyCallsMet : Type 0 where
   pub one-sided : OneCall
   pub one-sided-met : MetOne (toBstring 1 (bytes "a")) one-sided
   pub one-sided-done : (one-sided .refusal ≡ 0) × (bytesOf one-sided ≡ bytes "a:a")
+  pub two-sided : OneCall
+  pub two-sided-met : MetOne (toBstring 1 (bytes "a:a")) two-sided
+  pub two-sided-done : (two-sided .refusal ≡ 0) × (bytesOf two-sided ≡ bytes "a:a")
   pub exception : OneCall
   pub exception-met : MetOne (toBstring 0 (bytes "++a")) exception
   pub exception-done : (exception .refusal ≡ 0) × (bytesOf exception ≡ bytes "+a")
   pub again : OneCall
   pub again-met : MetOne (toBstring 0 (bytesOf exception)) again
   pub again-done : (again .refusal ≡ 0) × (bytesOf again ≡ bytes "a")
+  pub long : OneCall
+  pub long-met : MetOne (toBstring 1 (replicate (specBytes / 2) (byte "a"))) long
+  pub long-done : (long .refusal ≡ 0) × (long .size ≡ specBytes + 1)

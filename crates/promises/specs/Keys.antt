@@ -50,18 +50,14 @@ LongKeysRefused =
     → specBytes < length (canonicalText op s)
     → readSpec op (canonicalText op s) ≡ refused 1 none
 
--- "[..] except for those sources": every one of them is an exception, whether its text is refused or read as another instruction.
+-- "[..] except for those sources": every one of them is an exception, whether its text is refused or read as another instruction. It
+-- holds of any spec, so of every accepted one.
 abbrev pub PlusNeverReadsBack : Type 0
-PlusNeverReadsBack =
-    (op : ℕ) (t : Text) (s : Spec)
-    → readSpec op t ≡ accepted s
-    → plusOnly (instruction op s) ≡ true
-    → instructed op (canonicalText op s) ≡ accepted (instruction op s)
-    → ⊥
+PlusNeverReadsBack = (op : ℕ) (s : Spec) → plusOnly (instruction op s) ≡ true → instructed op (canonicalText op s) ≡ accepted (instruction op s) → ⊥
 
--- "Invoice lines will be keyed by canonical text [..]", "beside what already holds for groups".
--- Two fetch groups with the same keys, each in its place, have the same rows, conflicts, kept rows and fixes, whatever the items and rows:
--- without a limit, and fetch-only sources that begin with `+` among them.
+-- More than is asked, for "Invoice lines will be keyed by canonical text [..]": two fetch groups with the same keys, each in its place,
+-- have the same rows, conflicts, kept rows and fixes, whatever the items and rows. There is no limit, and fetch-only sources that begin
+-- with `+` are among them.
 abbrev pub SameKeysSameMeaning : Type 0
 SameKeysSameMeaning =
     (specs specs′ : Text) (group group′ : List Spec)
@@ -69,3 +65,12 @@ SameKeysSameMeaning =
     → readSpecs 0 specs′ ≡ accepted group′
     → canonicalTexts group ≡ canonicalTexts group′
     → SameMeaning group group′ specs specs′
+
+-- all of it
+pub record Keys : Type 0 where
+  pub every-accepted-has-key : EveryAcceptedHasKey
+  pub keys-exactly : KeysExactly
+  pub keys-read-back : KeysReadBack
+  pub long-keys-refused : LongKeysRefused
+  pub plus-never-reads-back : PlusNeverReadsBack
+  pub same-keys-same-meaning : SameKeysSameMeaning

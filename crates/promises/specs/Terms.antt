@@ -82,7 +82,17 @@ plusOnly (pushDelete dst) = false
 plusOnly (pushMatching src dst force) = false
 plusOnly (pushExclude src) = false
 
--- a fetch spec that is not so
+-- an instruction, but for whether it allows a non-fast-forward
+abbrev pub unforced : Instruction → Instruction
+unforced (fetchOnly src) = fetchOnly src
+unforced (fetchExclude src) = fetchExclude src
+unforced (fetchAndUpdate src dst force) = fetchAndUpdate src dst false
+unforced (pushAllMatchingBranches force) = pushAllMatchingBranches false
+unforced (pushDelete dst) = pushDelete dst
+unforced (pushMatching src dst force) = pushMatching src dst false
+unforced (pushExclude src) = pushExclude src
+
+-- read for fetch, the spec is not fetch-only with a source that begins with `+`
 unfoldable pub noPlus : Spec → Bool
 noPlus s = not (plusOnly (instruction 0 s))
 
