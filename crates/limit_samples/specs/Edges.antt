@@ -1,15 +1,18 @@
 -- The limits of document 01 on either side, computed. They stand apart from the other samples since they take longer than all of them.
 use mathlib.Core.Path.{_≡_, refl}
+use mathlib.Core.Bool.{false}
 use mathlib.Core.List.{List, [], _∷_, _++_}
 use mathlib.Core.Option.{Option, none, some}
 use Prim.Native.Nat.{_+_, _^_, _≤_, _<_}
 use lib.Dec.{lit≤, lit<}
 use lib.ListN.{length, replicate}
-use Rattle.meaning.specs.Bytes.{Text, bytes, byte, caret}
+use Rattle.meaning.specs.Bytes.{Text, bytes, byte, colon, caret}
 use Rattle.meaning.specs.Limits.{mappedBytes, specListBytes, itemListBytes, rowListBytes, specCount, itemCount, largestNumber, decimalDigits}
 use Rattle.meaning.specs.Spec.{accepted, refused, Mode, Normal, Negative, Spec, readSpec}
+use Rattle.meaning.specs.Instruction.{pushMatching}
 use Rattle.meaning.specs.Number.{recordBytes}
 use Rattle.meaning.specs.Lists.{readSpecs, readItems}
+use Rattle.meaning.specs.Entries.{instructed, toBstring}
 use Rattle.meaning.specs.Everything.{everything}
 
 -- a spec, written short
@@ -49,3 +52,19 @@ pub limits :
     × (readItems (replicate 65536 0) ≡ refused 12 none)
 unfolding everything
 limits = (refl, refl, refl, refl, refl, refl, refl, refl, refl, refl, refl, refl, refl, refl)
+
+-- a push of 2,048 letters has a key of 4,097 bytes, which is refused when it is read; one letter less, and it is read
+abbrev letters : Text
+letters = replicate 2048 (byte "a")
+
+abbrev fewer : Text
+fewer = replicate 2047 (byte "a")
+
+pub long-keys :
+    (toBstring 1 letters ≡ accepted (some (letters ++ (colon ∷ letters)) ∷ []))
+    × (length (letters ++ (colon ∷ letters)) ≡ 4097)
+    × (readSpec 1 (letters ++ (colon ∷ letters)) ≡ refused 1 none)
+    × (toBstring 1 fewer ≡ accepted (some (fewer ++ (colon ∷ fewer)) ∷ []))
+    × (instructed 1 (fewer ++ (colon ∷ fewer)) ≡ accepted (pushMatching fewer fewer false))
+unfolding everything
+long-keys = (refl, refl, refl, refl, refl)

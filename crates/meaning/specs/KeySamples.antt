@@ -19,6 +19,7 @@ Keyed op t i key = (instructed op (bytes t) ≡ accepted i) × (toBstring op (by
 pub fetch-keys :
     Keyed 0 "" (fetchOnly (bytes "HEAD")) "HEAD"
     × Keyed 0 "@" (fetchOnly (bytes "HEAD")) "HEAD"
+    × Keyed 0 "HEAD" (fetchOnly (bytes "HEAD")) "HEAD"
     × Keyed 0 "+" (fetchOnly (bytes "HEAD")) "HEAD"
     × Keyed 0 "+a:" (fetchOnly (bytes "a")) "a"
     × Keyed 0 "++" (fetchOnly (bytes "+")) "+"
@@ -29,14 +30,16 @@ pub fetch-keys :
     × Keyed 0 "++a:b" (fetchAndUpdate (bytes "+a") (bytes "b") true) "++a:b"
 unfolding everything
 fetch-keys =
-    ((refl, refl), (refl, refl), (refl, refl), (refl, refl), (refl, refl), (refl, refl), (refl, refl), (refl, refl), (refl, refl), (refl, refl))
+    ((refl, refl), (refl, refl), (refl, refl), (refl, refl), (refl, refl), (refl, refl), (refl, refl), (refl, refl), (refl, refl), (refl, refl), (refl, refl))
 
 -- push: all matching branches, delete, one side, sources that skip the name rules
 pub push-keys :
     Keyed 1 ":" (pushAllMatchingBranches false) ":"
     × Keyed 1 "+:" (pushAllMatchingBranches true) "+:"
+    × Keyed 1 "+" (pushAllMatchingBranches true) "+:"
     × Keyed 1 ":d" (pushDelete (bytes "d")) ":d"
     × Keyed 1 "a" (pushMatching (bytes "a") (bytes "a") false) "a:a"
+    × Keyed 1 "a:a" (pushMatching (bytes "a") (bytes "a") false) "a:a"
     × Keyed 1 "++a" (pushMatching (bytes "+a") (bytes "+a") true) "++a:+a"
     × Keyed 1 "+^a:b" (pushMatching (bytes "^a") (bytes "b") true) "+^a:b"
     × Keyed 1 "++:b" (pushMatching (bytes "+") (bytes "b") true) "++:b"
@@ -45,7 +48,7 @@ pub push-keys :
     × Keyed 1 "^@" (pushExclude (bytes "HEAD")) "^HEAD"
 unfolding everything
 push-keys =
-    ((refl, refl), (refl, refl), (refl, refl), (refl, refl), (refl, refl), (refl, refl), (refl, refl), (refl, refl), (refl, refl), (refl, refl))
+    ((refl, refl), (refl, refl), (refl, refl), (refl, refl), (refl, refl), (refl, refl), (refl, refl), (refl, refl), (refl, refl), (refl, refl), (refl, refl), (refl, refl))
 
 -- the keys of fetch-only sources that begin with `+`, read again: as another, or not at all
 pub plus-keys :
