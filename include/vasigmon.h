@@ -180,14 +180,14 @@ typedef struct vasigmon_written {
     uint64_t length;
 } vasigmon_written;
 
-/* Writes the canonical text of a spec's instruction.
+/* Writes the canonical text of a spec's instruction, in at most 8,193 bytes.
  *
- * The text is a good key for a price list: two accepted specs of one operation have
- * equal texts exactly if they have equal instructions, that is kind, force and the
- * bytes of both sides. Read for that operation, a key of at most 4,096 bytes gives an
- * equal instruction; the key of a fetch-only source that begins with `+` never does,
- * as `++a` has the key `+a`, which is only `a`. The fetch `a:b` and the push `a:b` have
- * the same text, so keep the operation beside the key. */
+ * The text, with the operation beside it, is a key for a price list: two accepted specs
+ * of one operation have equal texts exactly if their instructions are equal, that is
+ * kind, force and the bytes of both sides (a supplied HEAD counts as these four letters,
+ * and places do not matter). Handed in again as a spec, a text of at most 4,096 bytes
+ * gives an equal instruction, except for that of a fetch-only source that begins with
+ * `+`: it still tells specs apart, but `++a` has the text `+a`, and `+a` fetches `a`. */
 vasigmon_written vasigmon_to_bstring(uint64_t op, const uint8_t *spec, size_t spec_len,
                                      uint8_t *out, size_t out_len);
 

@@ -199,12 +199,14 @@ impl<'a> Spec<'a> {
         list::records(&list).map(<[u8]>::to_vec).collect()
     }
 
-    /// The canonical text of its instruction, which is a good key for a price list.
+    /// The canonical text of its instruction: with the operation beside it, a key for a price
+    /// list.
     ///
-    /// Two specs of one operation have equal texts exactly if their [instructions] are equal. A
-    /// text of at most 4,096 bytes, read for that operation, gives an equal instruction. Only
-    /// the text of a fetch-only source that begins with `+` never does. A key is of one
-    /// operation: the fetch `a:b` and the push `a:b` have the same text.
+    /// Two specs of one operation have equal texts exactly if their [instructions] are equal.
+    /// Handed in again as a spec, a text of at most 4,096 bytes gives an equal instruction. The
+    /// one exception is a fetch-only source that begins with `+`: its text still tells specs
+    /// apart, but is read as another spec, or refused. The fetch `a:b` and the push `a:b` have
+    /// the same text, so a price list for both keeps the operation too.
     ///
     /// [instructions]: Spec::instruction
     ///
@@ -222,7 +224,7 @@ impl<'a> Spec<'a> {
     /// // The key is read back as an equal instruction.
     /// assert_eq!(parse(Push, &key)?.instruction(), main.instruction());
     ///
-    /// // Not so the key of a source that begins with `+`: the spec fetches `+a`, its key only `a`.
+    /// // Not so the key of a source that begins with `+`: the spec fetches `+a`, and its key `a`.
     /// let signed = parse(Fetch, b"++a")?;
     /// assert_eq!(signed.source(), Some(b"+a".as_slice()));
     /// assert_eq!(signed.to_bstring(), b"+a");
