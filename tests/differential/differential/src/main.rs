@@ -32,8 +32,8 @@ pub enum Fault {
     None,
     /// The crate's side: the force of each fetch that updates is flipped, each reverse
     /// listing loses its last row, the sources of each conflict are reversed, of the
-    /// destinations of a spec, or of two, the last is lost, and the key of each forced
-    /// fetch that updates loses its plus.
+    /// destinations of a spec, or of two, the last is lost, and where keys are compared
+    /// two instructions that differ in force alone are equal.
     Oracle,
     /// Our side: each list of prefixes of one spec loses its last one, each forward
     /// listing its last row, each list of fixes and each destination of two specs its

@@ -54,8 +54,32 @@ pub fn fewest_records(list: &[u8], differs: impl Fn(Vec<u8>) -> bool) -> Vec<u8>
     }
 }
 
-/// Two smallest texts that still differ: bytes are left out, and then also made an `a`, while
-/// they do and time allows.
+/// Copies of two texts that are simpler alike: a run of bytes of the first is left out wherever
+/// it stands in either, longer runs first, or is an `a` there.
+fn both(texts: &[Vec<u8>; 2]) -> impl Iterator<Item = [Vec<u8>; 2]> + '_ {
+    let first = &texts[0];
+    let replaced = |run: &[u8], with: &[u8]| texts.each_ref().map(|text| replaced(text, run, with));
+    let lengths =
+        std::iter::successors(Some(first.len()), |length| Some(length / 2)).take_while(|length| *length > 0);
+    let runs = lengths.flat_map(|length| first.chunks(length));
+    let plainer = runs.clone().filter(|run| *run != b"a").map(move |run| replaced(run, b"a"));
+    runs.map(move |run| replaced(run, b"")).chain(plainer)
+}
+
+/// A text with other bytes wherever a run of bytes, which is not empty, stands.
+fn replaced(mut text: &[u8], run: &[u8], with: &[u8]) -> Vec<u8> {
+    let mut copy = Vec::new();
+    while let Some(at) = text.windows(run.len()).position(|bytes| bytes == run) {
+        copy.extend_from_slice(&text[..at]);
+        copy.extend_from_slice(with);
+        text = &text[at + run.len()..];
+    }
+    copy.extend_from_slice(text);
+    copy
+}
+
+/// Two smallest texts that still differ: bytes are left out, and then also made an `a`, of one
+/// text or of both alike, while they do and time allows.
 pub fn smallest_two(texts: [Vec<u8>; 2], differs: impl Fn(&[Vec<u8>; 2]) -> bool) -> [Vec<u8>; 2] {
     let until = Instant::now() + PATIENCE;
     let differs = |texts: &[Vec<u8>; 2]| Instant::now() < until && differs(texts);
@@ -66,7 +90,8 @@ pub fn smallest_two(texts: [Vec<u8>; 2], differs: impl Fn(&[Vec<u8>; 2]) -> bool
     loop {
         let firsts = copies(&texts[0]).map(|first| [first, texts[1].clone()]);
         let seconds = copies(&texts[1]).map(|second| [texts[0].clone(), second]);
-        let smaller = firsts.chain(seconds).take_while(|_| Instant::now() < until).find(differs);
+        let smaller =
+            firsts.chain(seconds).chain(both(&texts)).take_while(|_| Instant::now() < until).find(differs);
         match smaller {
             Some(smaller) => texts = smaller,
             None => return texts,
@@ -97,4 +122,20 @@ pub fn simpler<'a>(
 pub fn plainer<'a>(text: &'a [u8], bytes: &'a [u8]) -> impl Iterator<Item = Vec<u8>> + 'a {
     let short = (0..short_texts(bytes, 2)).map(|n| short_text(bytes, n));
     copies(text).chain(short.take_while(|short| short.len() < text.len()))
+}
+
+#[cfg(test)]
+mod tests {
+    use super::*;
+
+    #[test]
+    fn two_texts_shrink_alike() {
+        let differs = |[first, second]: &[Vec<u8>; 2]| {
+            !first.is_empty() && *second == [b"+".as_slice(), first, b":", first].concat()
+        };
+        for side in [b"b".as_slice(), b"refs/heads/b", b"aaa", &[b'l'; 4096]] {
+            let texts = [side.to_vec(), [b"+", side, b":", side].concat()];
+            assert_eq!(smallest_two(texts, differs), [b"a".to_vec(), b"+a:a".to_vec()]);
+        }
+    }
 }

@@ -33,24 +33,19 @@ impl Keyed {
     }
 }
 
-/// A spec that the crate accepts, with the text that it is said to write.
-pub struct TheCrate<'a> {
-    pub keyed: oracle::Keyed<'a>,
-    pub text: Vec<u8>,
+/// The crate's answer. That the operation is 0 or 1 is asked by us alone.
+pub fn the_crate(op: u64, spec: &[u8]) -> Result<oracle::Keyed<'_>, u64> {
+    if op > 1 { Err(18) } else { oracle::Keyed::read(op, spec) }
 }
 
 impl Comparison {
-    /// The crate's answer. That the operation is 0 or 1 is asked by us alone.
-    pub fn the_crate<'a>(&self, op: u64, spec: &'a [u8]) -> Result<TheCrate<'a>, u64> {
-        if op > 1 {
-            return Err(18);
+    /// Whether the crate takes two instructions for equal.
+    pub fn asks_the_same(&self, one: &oracle::Keyed, other: &oracle::Keyed) -> bool {
+        let unforced = |keyed: &oracle::Keyed| Fields { force: 0, ..keyed.fields() };
+        match self.fault {
+            Fault::Oracle => unforced(one) == unforced(other),
+            _ => one.asks_the_same(other),
         }
-        let keyed = oracle::Keyed::read(op, spec)?;
-        let mut text = keyed.text().to_vec();
-        if self.fault == Fault::Oracle && (keyed.fields().kind, keyed.fields().force) == (2, 1) {
-            text.remove(0);
-        }
-        Ok(TheCrate { keyed, text })
     }
 
     /// The paper's answer.

@@ -2,7 +2,7 @@
 //! each is read again as what it is the key of; by the crate, by the archive, and by the
 //! paper's reading.
 
-use super::{Entries, Keyed, Pair, Seen, answers::TheCrate};
+use super::{Entries, Keyed, Pair, Seen, answers::the_crate};
 use crate::{Fault, buffers::Again, smaller::smallest_two};
 use cases::SPEC_LIMIT;
 use oracle::ReadAs;
@@ -18,7 +18,7 @@ pub struct Comparison {
 /// A spec that was compared by itself, with the answers of those that accept it.
 pub struct Compared<'a> {
     pub spec: &'a [u8],
-    pub the_crate: Option<TheCrate<'a>>,
+    pub the_crate: Option<oracle::Keyed<'a>>,
     pub ours: Option<Keyed>,
 }
 
@@ -33,7 +33,7 @@ impl Comparison {
     /// Holds the crate and us to what is said of two accepted specs of one operation.
     pub fn pair(&self, first: &Compared, second: &Compared, seen: &mut Seen) -> Result<(), String> {
         if let (Some(one), Some(other)) = (&first.the_crate, &second.the_crate) {
-            exactly_if("the crate's", one.text == other.text, one.keyed.asks_the_same(&other.keyed))?;
+            exactly_if("the crate's", one.text() == other.text(), self.asks_the_same(one, other))?;
         }
         if let (Some(one), Some(other)) = (&first.ours, &second.ours) {
             exactly_if("our", one.key == other.key, one.instruction == other.instruction)?;
@@ -50,7 +50,7 @@ impl Comparison {
         again: Again,
         seen: &mut Seen,
     ) -> Result<Compared<'a>, String> {
-        let the_crate = self.the_crate(op, spec);
+        let the_crate = the_crate(op, spec);
         let read = the_crate.as_ref().ok().map(read_by_the_crate).transpose()?;
         let ours = self.agreed(op, spec, again)?;
         refused_alike(spec, the_crate.as_ref().err().copied(), ours.as_ref().err().copied())?;
@@ -96,9 +96,9 @@ impl Comparison {
 }
 
 /// What the crate reads in its own text, or a complaint unless that is as is said of keys.
-fn read_by_the_crate(the_crate: &TheCrate) -> Result<ReadAs, String> {
-    let read = the_crate.keyed.in_text(&the_crate.text);
-    reads_back("the crate's", &the_crate.text, the_crate.keyed.is_exception(), read)?;
+fn read_by_the_crate(the_crate: &oracle::Keyed) -> Result<ReadAs, String> {
+    let read = the_crate.in_text(the_crate.text());
+    reads_back("the crate's", the_crate.text(), the_crate.is_exception(), read)?;
     Ok(read)
 }
 
@@ -136,8 +136,8 @@ fn refused_alike(spec: &[u8], the_crate: Option<u64>, ours: Option<u64>) -> Resu
 }
 
 /// Complains unless our instruction is the crate's, and our key the crate's text.
-fn alike(the_crate: &TheCrate, ours: &Keyed) -> Result<(), String> {
-    let theirs = Keyed { instruction: the_crate.keyed.fields(), key: the_crate.text.clone() };
+fn alike(the_crate: &oracle::Keyed, ours: &Keyed) -> Result<(), String> {
+    let theirs = Keyed { instruction: the_crate.fields(), key: the_crate.text().to_vec() };
     if theirs == *ours { Ok(()) } else { Err(differ("the crate", &Ok(theirs), &Ok(ours.clone()))) }
 }
 
@@ -281,28 +281,39 @@ mod tests {
     #[test]
     fn keys_that_do_not_tell_two_specs_apart_are_noticed() {
         let faulty = comparison(MODEL, Fault::Oracle);
-        let theirs = |spec| Compared { spec, the_crate: faulty.the_crate(0, spec).ok(), ours: None };
-        let differ = |first: &Compared, second: &Compared| {
-            comparison(MODEL, Fault::None).pair(first, second, &mut Seen::default()).is_err()
+        let theirs = |op, spec| Compared { spec, the_crate: the_crate(op, spec).ok(), ours: None };
+        let differ = |op, first, second| {
+            faulty.pair(&theirs(op, first), &theirs(op, second), &mut Seen::default()).is_err()
         };
-        assert!(differ(&theirs(b"+a:b"), &theirs(b"a:b")) && !differ(&theirs(b"a:b"), &theirs(b"b:a")));
+        assert!(differ(0, b":a", b"+:a") && differ(1, b"a", b"+a:a") && differ(1, b":", b"+"));
+        assert!(!differ(0, b"a:b", b"b:a") && !differ(0, b"a", b"+a") && !differ(1, b":a", b"+:a"));
         let faulty = comparison(MODEL, Fault::Ours);
         let ours =
             |spec| Compared { spec, the_crate: None, ours: faulty.ours(1, spec, Again::All).unwrap().ok() };
-        assert!(differ(&ours(b"a"), &ours(b"a:a")) && !differ(&ours(b"a"), &ours(b"b:a")));
+        let differ = |first, second| faulty.pair(&ours(first), &ours(second), &mut Seen::default()).is_err();
+        assert!(differ(b"a", b"a:a") && !differ(b"a", b"b:a"));
+    }
+
+    /// With the crate's fault every spec passes by itself.
+    #[test]
+    fn the_fault_of_the_crate_shows_in_pairs_alone() {
+        let comparison = comparison(MODEL, Fault::Oracle);
+        let passes = |op, spec: &[u8]| comparison.spec(op, spec, Again::One(1), &mut Seen::default()).is_ok();
+        assert!([0, 1].iter().all(|op| similar::all().iter().all(|spec| passes(*op, spec))));
     }
 
     #[test]
     fn differences_shrink() {
-        for (fault, op, first, second, smallest) in [
-            (Fault::Oracle, 0, b"+refs/heads/a:refs/b".as_slice(), b"a".as_slice(), b"+:a".as_slice()),
-            (Fault::Ours, 1, b"+refs/heads/a", b"a:b", b"a"),
-            (Fault::Paper, 1, b"+:refs/heads/a", b"a:b", b"+:a"),
+        for (fault, op, pair, smallest) in [
+            (Fault::Oracle, 0, ["+refs/heads/a:refs/b", "refs/heads/a:refs/b"], ["+:a", ":a"]),
+            (Fault::Oracle, 1, ["refs/heads/b", "+refs/heads/b:refs/heads/b"], ["a", "+a"]),
+            (Fault::Ours, 1, ["+refs/heads/a", "a:b"], ["a", ""]),
+            (Fault::Paper, 1, ["+:refs/heads/a", "a:b"], ["+:a", ""]),
         ] {
             let comparison = comparison(MODEL, fault);
-            let found = comparison.smallest(Pair::of(op, first, second));
+            let found = comparison.smallest(Pair::of(op, pair[0].as_bytes(), pair[1].as_bytes()));
             assert!(comparison.run(&found, Again::All, &mut Seen::default()).is_err());
-            assert_eq!((found.first.as_slice(), found.second.as_slice()), (smallest, b"".as_slice()));
+            assert_eq!([found.first, found.second], smallest.map(|spec| spec.as_bytes().to_vec()));
         }
     }
 }
