@@ -69,7 +69,10 @@ pub fn run(comparison: Comparison, sample: Sample, count: u64) -> bool {
         && run.pairs("grown pairs", count, grown, Seen::add_grown)
         && (run.seen.everything() || sample.is_part());
     if passed {
-        println!("differential: {} comparisons of keys, no difference", run.seen.pairs());
+        let (pairs, sharing) = (run.seen.pairs(), run.seen.sharing());
+        println!(
+            "differential: {pairs} comparisons of keys, {sharing} of them grown pairs of accepted specs that share a side, no difference"
+        );
     }
     passed
 }
