@@ -54,6 +54,23 @@ impl Fault {
             Fault::Paper => " --fault paper",
         }
     }
+
+    /// Prints the command that repeats a difference, which these words ask for. False, as the
+    /// run that found it.
+    fn repeated_by(self, words: &str) -> bool {
+        let fault = self.words();
+        println!("  again, in tests/differential: cargo run --release -p differential -- {words}{fault}");
+        false
+    }
+}
+
+/// Says whether there is a difference, and which.
+fn said(answer: Result<(), String>) -> bool {
+    match &answer {
+        Ok(()) => println!("no difference"),
+        Err(difference) => println!("{difference}"),
+    }
+    answer.is_ok()
 }
 
 /// What the command line asks for.

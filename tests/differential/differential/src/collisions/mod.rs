@@ -18,6 +18,7 @@ use crate::{
     buffers::Again,
     cut, groups,
     hex::to_hex,
+    said,
     work::{self, Sample},
 };
 use cases::Random;
@@ -81,14 +82,6 @@ pub fn one_group(comparison: &Comparison, specs: &[u8], items: &[u8]) -> bool {
     let texts = |list| list::records(list).map(<[u8]>::to_vec).collect();
     let group = Group { specs: texts(specs), items: texts(items) };
     said(comparison.group(&group, &mut Seen::default()))
-}
-
-fn said(answer: Result<(), String>) -> bool {
-    match &answer {
-        Ok(()) => println!("no difference"),
-        Err(difference) => println!("{difference}"),
-    }
-    answer.is_ok()
 }
 
 fn again(number: u64) -> Again {
@@ -179,7 +172,7 @@ impl Run {
         println!("difference: collisions");
         println!("  specs {}", cut(groups::shown(&list::of([&pair.first, &pair.second]))));
         println!("  {}", cut(difference));
-        self.repeated_by(&again)
+        self.comparison.fault.repeated_by(&again)
     }
 
     /// Prints a smallest group on which the report is wrong.
@@ -192,12 +185,8 @@ impl Run {
         println!("  specs {}, items {}", cut(groups::shown(&specs)), cut(groups::shown(&items)));
         println!("  {}", cut(difference));
         let (specs, items) = (to_hex(&specs), to_hex(&items));
-        self.repeated_by(&format!("--part collisions --specs-hex '{specs}' --items-hex '{items}'"))
-    }
-
-    fn repeated_by(&self, words: &str) -> bool {
-        let fault = self.comparison.fault.words();
-        println!("  again, in tests/differential: cargo run --release -p differential -- {words}{fault}");
-        false
+        self.comparison
+            .fault
+            .repeated_by(&format!("--part collisions --specs-hex '{specs}' --items-hex '{items}'"))
     }
 }

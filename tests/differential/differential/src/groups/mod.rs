@@ -16,6 +16,7 @@ use crate::{
     cut,
     damage::{Damage, Pair},
     hex::to_hex,
+    said,
     specs::records,
     work::{self, Sample},
 };
@@ -70,12 +71,7 @@ pub fn run(comparison: Comparison, sample: Sample, count: u64) -> bool {
 
 /// Compares one pair of lists.
 pub fn one(comparison: &Comparison, lists: &Lists) -> bool {
-    let answer = comparison.run(lists, Again::All, &mut Seen::default());
-    match &answer {
-        Ok(()) => println!("no difference"),
-        Err(difference) => println!("{difference}"),
-    }
-    answer.is_ok()
+    said(comparison.run(lists, Again::All, &mut Seen::default()))
 }
 
 /// A small group, which is well formed in most cases.
@@ -173,14 +169,8 @@ impl Run {
         println!("  specs {}", cut(shown(&smallest.specs)));
         println!("  items {}", cut(shown(&smallest.items)));
         println!("  {}", cut(difference));
-        println!(
-            "  again, in tests/differential: cargo run --release -p differential -- --op {} --specs-hex '{}' --items-hex '{}'{}",
-            smallest.op,
-            to_hex(&smallest.specs),
-            to_hex(&smallest.items),
-            self.comparison.fault.words()
-        );
-        false
+        let (op, specs, items) = (smallest.op, to_hex(&smallest.specs), to_hex(&smallest.items));
+        self.comparison.fault.repeated_by(&format!("--op {op} --specs-hex '{specs}' --items-hex '{items}'"))
     }
 }
 

@@ -18,6 +18,7 @@ use crate::{
     buffers::Again,
     cut, groups,
     hex::to_hex,
+    said,
     work::{self, Sample},
 };
 use cases::{Random, short_text, short_texts};
@@ -79,12 +80,7 @@ pub fn run(comparison: Comparison, sample: Sample, count: u64) -> bool {
 
 /// Compares one pair.
 pub fn one(comparison: &Comparison, pair: &Pair) -> bool {
-    let answer = comparison.run(pair, Again::All, &mut Seen::default());
-    match &answer {
-        Ok(()) => println!("no difference"),
-        Err(difference) => println!("{difference}"),
-    }
-    answer.is_ok()
+    said(comparison.run(pair, Again::All, &mut Seen::default()))
 }
 
 /// What one thread finds in single specs: those that are accepted, and what came up.
@@ -183,14 +179,9 @@ impl Run {
         println!("difference: keys, operation {}", pair.op);
         println!("  specs {}", cut(groups::shown(&list::of([&pair.first, &pair.second]))));
         println!("  {}", cut(differs.expect_err("a smallest pair differs")));
-        println!(
-            "  again, in tests/differential: cargo run --release -p differential -- --part keys --op {} --first-hex '{}' --second-hex '{}'{}",
-            pair.op,
-            to_hex(&pair.first),
-            to_hex(&pair.second),
-            self.comparison.fault.words()
-        );
-        false
+        let (op, first, second) = (pair.op, to_hex(&pair.first), to_hex(&pair.second));
+        let words = format!("--part keys --op {op} --first-hex '{first}' --second-hex '{second}'");
+        self.comparison.fault.repeated_by(&words)
     }
 }
 

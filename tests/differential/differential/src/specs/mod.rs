@@ -143,11 +143,7 @@ impl Run {
         let difference = self.comparison.run(op, &smallest).expect_err("a smallest case differs");
         println!("difference: operation {op}, spec \"{}\"", cut(smallest.escape_ascii()));
         println!("  {}", cut(difference));
-        println!(
-            "  again, in tests/differential: cargo run --release -p differential -- --op {op} --spec-hex '{}'{}",
-            to_hex(&smallest),
-            self.comparison.fault.words()
-        );
-        false
+        let words = format!("--op {op} --spec-hex '{}'", to_hex(&smallest));
+        self.comparison.fault.repeated_by(&words)
     }
 }

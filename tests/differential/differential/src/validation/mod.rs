@@ -17,6 +17,7 @@ use crate::{
     damage::{Damage, Pair},
     groups,
     hex::to_hex,
+    said,
     work::{self, Sample},
 };
 use std::{borrow::Cow, time::Instant};
@@ -116,12 +117,7 @@ pub fn run(comparison: Comparison, sample: Sample, count: u64) -> bool {
 
 /// Compares one case.
 pub fn one(comparison: &Comparison, case: &Case) -> bool {
-    let answer = comparison.run(case, Again::All, &mut Seen::default());
-    match &answer {
-        Ok(()) => println!("no difference"),
-        Err(difference) => println!("{difference}"),
-    }
-    answer.is_ok()
+    said(comparison.run(case, Again::All, &mut Seen::default()))
 }
 
 /// A refusal as validation answers it.
@@ -197,13 +193,8 @@ impl Run {
             Second::Items(items) => println!("  items {}", cut(groups::shown(items))),
         }
         println!("  {}", cut(difference));
-        println!(
-            "  again, in tests/differential: cargo run --release -p differential -- --part validation --op {} --specs-hex '{}' --{what}-hex '{}'{}",
-            smallest.op,
-            to_hex(&smallest.specs),
-            to_hex(second),
-            self.comparison.fault.words()
-        );
-        false
+        let (op, specs, second) = (smallest.op, to_hex(&smallest.specs), to_hex(second));
+        let words = format!("--part validation --op {op} --specs-hex '{specs}' --{what}-hex '{second}'");
+        self.comparison.fault.repeated_by(&words)
     }
 }
