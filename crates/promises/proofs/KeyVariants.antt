@@ -1,5 +1,5 @@
 -- The false variants of document 02, W13, are refuted, each by a small example. Assumes nothing.
-use Prim.Native.Nat.{ℕ, _/_, _≤_}
+use Prim.Native.Nat.{ℕ, _+_, _/_, _≤_}
 use native.Mathlib.Omega.{arith}
 use mathlib.Core.Path.{_≡_, refl, sym, ap, _∙_}
 use mathlib.Core.Logic.{_↔_, _⊎_, inl, inr}
@@ -15,7 +15,7 @@ use Rattle.meaning.specs.Instruction.{instruction, canonicalText}
 use Rattle.meaning.specs.Rows.{Row}
 use Rattle.meaning.specs.Everything.{everything}
 use Rattle.promises.specs.Accepted.{AcceptedSpec}
-use Rattle.promises.specs.KeyVariants.{KeysAcrossOperations, KeysOfEqualSpecs, KeysOfAnySpecs, KeysWithoutForce, SameKeysInPush, SameKeysInAnyPlace, TellsApart, ApartIsEnough, TogetherIsEnough, ReadBackOfAnyLength, KeysFit, ReadBackOfAnySource, ReadBackIsAccepted, NoPlusReadsBack, ReadBackIsTheSame, KeysToldThoughRefused, KeysToldOfBuffer, FalseKeyVariants, KeyCallsMet}
+use Rattle.promises.specs.KeyVariants.{KeysAcrossOperations, KeysOfEqualSpecs, KeysOfAnySpecs, KeysWithoutForce, SameKeysInPush, SameKeysInAnyPlace, TellsApart, ApartIsEnough, TogetherIsEnough, ReadBackOfAnyLength, KeysFit, KeysWithinTwo, ReadBackOfAnySource, ReadBackIsAccepted, NoPlusReadsBack, ReadBackIsTheSame, KeysToldThoughRefused, KeysToldOfBuffer, FalseKeyVariants, KeyCallsMet}
 use Rattle.promises.proofs.Laws.{in-left, in-cons}
 use Rattle.promises.proofs.Keys.{every-accepted-has-key}
 use Rattle.promises.proofs.Refusals.{refused-accepted}
@@ -146,6 +146,18 @@ keys-fit : KeysFit → ⊥
 unfolding everything
 keys-fit f = let h : length (canonicalText 1 (only long)) ≤ specBytes = f 1 long (only long) long-read in omega arith
 
+-- a push of as many letters as a spec may have
+abbrev longest : Text
+longest = replicate specBytes (byte "a")
+
+longest-read : readSpec 1 longest ≡ accepted (only longest)
+unfolding everything
+longest-read = refl
+
+within-two : KeysWithinTwo → ⊥
+unfolding everything
+within-two f = let h : length (canonicalText 1 (only longest)) ≤ specBytes + specBytes = f 1 longest (only longest) longest-read in omega arith
+
 -- `++a`, whose key is read as only `a`
 abbrev plusA : Spec
 plusA = specIs Force (some (bytes "+a")) none
@@ -206,6 +218,7 @@ false-key-variants =
       together-is-enough = together-enough;
       read-back-of-any-length = any-length;
       keys-fit = keys-fit;
+      keys-within-two = within-two;
       read-back-of-any-source = any-source;
       read-back-is-accepted = is-accepted;
       no-plus-reads-back = no-plus;

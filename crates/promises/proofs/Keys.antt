@@ -25,6 +25,7 @@ use Rattle.promises.proofs.Clean.{clean-colon}
 use Rattle.promises.proofs.Members.{group-texts}
 use Rattle.promises.proofs.Calm.{calm}
 use Rattle.promises.proofs.Canonical.{calm-plain, same-meaning}
+use Rattle.promises.proofs.KeyLengths.{keys-within}
 use Rattle.promises.proofs.Plain.{plain, Fine, fine-means, fine-back, readable, text-back}
 
 -- every accepted spec has its instruction and its key
@@ -202,6 +203,7 @@ keys =
       keys-exactly = keys-exactly;
       keys-read-back = keys-read-back;
       long-keys-refused = long-keys-refused;
+      keys-within = keys-within;
       plus-never-reads-back = plus-never-reads-back;
       same-keys-same-meaning = same-keys-same-meaning;
     }

@@ -108,6 +108,10 @@ ReadBackOfAnyLength =
 abbrev pub KeysFit : Type 0
 KeysFit = (op : ℕ) (t : Text) (s : Spec) → readSpec op t ≡ accepted s → length (canonicalText op s) ≤ specBytes
 
+-- no text is longer than two specs
+abbrev pub KeysWithinTwo : Type 0
+KeysWithinTwo = (op : ℕ) (t : Text) (s : Spec) → readSpec op t ≡ accepted s → length (canonicalText op s) ≤ specBytes + specBytes
+
 -- a fetch-only source may begin with `+`
 abbrev pub ReadBackOfAnySource : Type 0
 ReadBackOfAnySource =
@@ -176,6 +180,7 @@ pub record FalseKeyVariants : Type 0 where
   pub together-is-enough : TogetherIsEnough → ⊥
   pub read-back-of-any-length : ReadBackOfAnyLength → ⊥
   pub keys-fit : KeysFit → ⊥
+  pub keys-within-two : KeysWithinTwo → ⊥
   pub read-back-of-any-source : ReadBackOfAnySource → ⊥
   pub read-back-is-accepted : ReadBackIsAccepted → ⊥
   pub no-plus-reads-back : NoPlusReadsBack → ⊥

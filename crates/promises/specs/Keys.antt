@@ -1,7 +1,7 @@
 -- What canonical texts promise as price list keys: document 02, W13. Each statement stands below the sentence that it is for. A spec's
 -- key is its canonical text, which the entry `toBstring` answers, and its instruction is what the entry `instructed` answers. The proofs are
 -- in proofs/Keys, what would be false in KeyVariants, and what calls leave in KeyCalls.
-use Prim.Native.Nat.{ℕ, _≤_, _<_}
+use Prim.Native.Nat.{ℕ, suc, _+_, _≤_, _<_}
 use mathlib.Core.Path.{_≡_}
 use mathlib.Core.Logic.{_↔_}
 use mathlib.Core.Bool.{true, false}
@@ -50,6 +50,10 @@ LongKeysRefused =
     → specBytes < length (canonicalText op s)
     → readSpec op (canonicalText op s) ≡ refused 1 none
 
+-- No key is longer than two specs and a colon.
+abbrev pub KeysWithin : Type 0
+KeysWithin = (op : ℕ) (t : Text) (s : Spec) → readSpec op t ≡ accepted s → length (canonicalText op s) ≤ specBytes + suc specBytes
+
 -- "[..] except for those sources": every one of them is an exception, whether its text is refused or read as another instruction. It
 -- holds of any spec, so of every accepted one.
 abbrev pub PlusNeverReadsBack : Type 0
@@ -72,5 +76,6 @@ pub record Keys : Type 0 where
   pub keys-exactly : KeysExactly
   pub keys-read-back : KeysReadBack
   pub long-keys-refused : LongKeysRefused
+  pub keys-within : KeysWithin
   pub plus-never-reads-back : PlusNeverReadsBack
   pub same-keys-same-meaning : SameKeysSameMeaning
