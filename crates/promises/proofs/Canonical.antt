@@ -1,20 +1,21 @@
 -- Demand 3, fourth: canonical texts change nothing. Assumes nothing.
 use mathlib.Core.Path.{_≡_, refl, sym, ap, _∙_}
-use mathlib.Core.Bool.{true}
+use mathlib.Core.Bool.{true, not}
 use mathlib.Core.List.{List, map}
 use mathlib.Core.Option.{Option, none, some}
 use Prim.Native.Nat.{ℕ, _≤_}
 use native.Mathlib.Omega.{arith}
 use borrow.Author.Tests.{leb-true, not-true}
 use lib.ListN.{length}
-use Rattle.meaning.specs.Bytes.{Text, every, In}
+use Rattle.meaning.specs.Bytes.{Text, bytes, _or_, every, begins, present, orEmpty, In}
 use Rattle.meaning.specs.Limits.{specBytes, specListBytes, specCount}
 use Rattle.meaning.specs.Spec.{accepted, Mode, Normal, Force, Negative, Spec, isNegative, readSpec}
-use Rattle.meaning.specs.Instruction.{instruction, canonicalText}
+use Rattle.meaning.specs.Instruction.{fetchInstruction, instruction, canonicalText}
 use Rattle.meaning.specs.Lists.{readSpecs}
 use Rattle.meaning.specs.Listing.{forwardRows, reverseRows}
 use Rattle.meaning.specs.Entries.{verdictOn, matchLhs, matchRhs, validated}
-use Rattle.promises.specs.Terms.{canonicalList, textFits, noPlus, SameMeaning}
+use Rattle.promises.specs.Terms.{canonicalList, textFits, plusOnly, noPlus, SameMeaning}
+use Rattle.promises.specs.Facts.{NoPlusByTheSpec}
 use Rattle.promises.specs.Demands.{CanonicalTextsChangeNothing}
 use Rattle.promises.proofs.Laws.{every-in}
 use Rattle.promises.proofs.Members.{group-count, group-texts, specs-written}
@@ -31,6 +32,18 @@ plain-calm Force src none n = refl
 plain-calm Force src (some d) n = refl
 plain-calm Negative src none n = refl
 plain-calm Negative src (some d) n = absurd (let q = n refl in let z : _≡_ {A = ℕ} 0 1 = cc in omega arith)
+
+-- by its sides, which spec is no exception
+pub no-plus-by-the-spec : NoPlusByTheSpec
+unfolding noPlus instruction
+no-plus-by-the-spec s = go (s .mode) (s .destination)
+  where
+    go : (m : Mode) (d : Option Text) → not (plusOnly (fetchInstruction m (orEmpty (s .source)) d)) ≡ (isNegative m or present d or not (begins (bytes "+") (orEmpty (s .source))))
+    go Normal none = refl
+    go Normal (some d) = refl
+    go Force none = refl
+    go Force (some d) = refl
+    go Negative d = refl
 
 pub calm-plain : (s : Spec) (t : Text) → readSpec 0 t ≡ accepted s → plain (instruction 0 s) ≡ calm s
 calm-plain s t e =

@@ -7,8 +7,8 @@ use mathlib.Core.Option.{Option, none, some}
 use Rattle.meaning.specs.Bytes.{Text}
 use Rattle.meaning.specs.Spec.{Answer, accepted, refused, Spec, readSpec}
 use Rattle.meaning.specs.Collide.{collide, collideBytes}
-use Rattle.promises.specs.Terms.{MaybeCall, MetMaybe, TellsBytes, TellsShort}
-use Rattle.promises.specs.Collisions.{TwoSpecs, Reported, yesWith, never}
+use Rattle.promises.specs.Terms.{TwoSpecs, MaybeCall, MetMaybe, TellsBytes, TellsShort}
+use Rattle.promises.specs.Collisions.{Reported, yesWith, never}
 use Rattle.promises.specs.CollisionCalls.{ToldOf, toldFirst, toldSecond, toldNo, toldYes, toldShort, ReportTold}
 use Rattle.promises.proofs.Leaving.{maybe-turned, maybe-alone, maybe-bytes}
 use Rattle.promises.proofs.Refusals.{Above, spec-above}
@@ -24,7 +24,7 @@ unfolding collideBytes
 bytes-are t u o e = rw e
 
 -- two accepted specs
-both-told : (t u : Text) (s r : Spec) (c : MaybeCall) → TwoSpecs t u s r → MetMaybe (collideBytes t u) c → ToldOf t u c
+both-told : (t u : Text) (s r : Spec) (c : MaybeCall) → TwoSpecs 0 t u s r → MetMaybe (collideBytes t u) c → ToldOf t u c
 both-told t u s r c h m = go (collides-exactly t u s r h)
   where
     go : Reported t u s r → ToldOf t u c

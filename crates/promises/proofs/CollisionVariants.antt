@@ -14,8 +14,8 @@ use Rattle.meaning.specs.Prefix.{beforeStar}
 use Rattle.meaning.specs.Match.{afterStar, mapsTo, wholeIf, literal, pattern, mapped, unmapped, forward}
 use Rattle.meaning.specs.Collide.{collide, collideBytes}
 use Rattle.meaning.specs.Everything.{everything}
-use Rattle.promises.specs.Terms.{MaybeCall}
-use Rattle.promises.specs.Collisions.{WrittenTo, byName, byObject, TwoSpecs}
+use Rattle.promises.specs.Terms.{TwoSpecs, MaybeCall}
+use Rattle.promises.specs.Collisions.{WrittenTo, byName, byObject}
 use Rattle.promises.specs.CollisionVariants.{YesByTwoNames, YesByNames, YesByShortNames, YesByGoodNames, YesOfAnySpecs, YesIsNotEmpty, NoByLength, LiteralsAsSpelt, OverlapCounts, StartsAreEnough, NoInReverseListing, EitherOrderThoughRefused, FalseCollisionVariants}
 use Rattle.promises.proofs.Laws.{same-is}
 use Rattle.promises.proofs.Buffers.{maybe-written}
@@ -69,7 +69,7 @@ longSource = replicate half (byte "x") ++ bytes "*"
 abbrev longDestination : Text
 longDestination = replicate otherHalf (byte "y") ++ bytes "*"
 
-long-read : TwoSpecs (longSource ++ bytes ":*") (bytes "*:" ++ longDestination) (twoSided Normal longSource (bytes "*")) (twoSided Normal (bytes "*") longDestination)
+long-read : TwoSpecs 0 (longSource ++ bytes ":*") (bytes "*:" ++ longDestination) (twoSided Normal longSource (bytes "*")) (twoSided Normal (bytes "*") longDestination)
 unfolding everything
 long-read = record { first = refl; second = refl }
 

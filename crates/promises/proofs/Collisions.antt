@@ -10,7 +10,8 @@ use Rattle.meaning.specs.Bytes.{Text, _or_, same, present, absent}
 use Rattle.meaning.specs.Spec.{Answer, accepted, Spec, isNegative, readSpec}
 use Rattle.meaning.specs.Match.{Form, literal, pattern, formOf, capture, completed}
 use Rattle.meaning.specs.Collide.{asWritten, target, literalIn, shared, sharedBy, collision, collide}
-use Rattle.promises.specs.Collisions.{WrittenTo, TwoSpecs, Reported, yesWith, never, CollidesExactly, YesExactly, NoExactly, PatternsCollide, LiteralsCollide, LiteralAndPatternCollide, NothingCollides, QuestionsInOrder, EitherOrder, NoInAnyListing, WrittenInBytes, YesInBytes, Collisions}
+use Rattle.promises.specs.Terms.{TwoSpecs}
+use Rattle.promises.specs.Collisions.{WrittenTo, Reported, yesWith, never, CollidesExactly, YesExactly, NoExactly, PatternsCollide, LiteralsCollide, LiteralAndPatternCollide, NothingCollides, QuestionsInOrder, EitherOrder, NoInAnyListing, WrittenInBytes, YesInBytes, Collisions}
 use Rattle.promises.proofs.Laws.{same-eq}
 use Rattle.promises.proofs.Captures.{capture-fill}
 use Rattle.promises.proofs.Accepted.{positive-of, read-is-accepted}
@@ -21,7 +22,7 @@ use Rattle.promises.proofs.InBytes.{shared-octets, in-bytes}
 use Rattle.promises.proofs.Listed.{row-written, written-is-listed}
 
 -- the report on two accepted specs
-report-is : (t u : Text) (s r : Spec) → TwoSpecs t u s r → collide t u ≡ accepted (collision s r)
+report-is : (t u : Text) (s r : Spec) → TwoSpecs 0 t u s r → collide t u ≡ accepted (collision s r)
 unfolding collide
 report-is t u s r h = rw (h .first, h .second)
 
@@ -75,7 +76,7 @@ target-is t s d e h =
     rw (n, h)
 
 -- so the report is what the destinations share
-report-shared : (t u : Text) (s r : Spec) (d e : Text) (f g : Form) → TwoSpecs t u s r → s .destination ≡ some d → formOf d ≡ f → r .destination ≡ some e → formOf e ≡ g → collide t u ≡ accepted (shared (asWritten f) (asWritten g))
+report-shared : (t u : Text) (s r : Spec) (d e : Text) (f g : Form) → TwoSpecs 0 t u s r → s .destination ≡ some d → formOf d ≡ f → r .destination ≡ some e → formOf e ≡ g → collide t u ≡ accepted (shared (asWritten f) (asWritten g))
 unfolding collision
 report-shared t u s r d e f g h p x q y = report-is t u s r h ∙ rw (target-is t s d (h .first) p, target-is u r e (h .second) q, x, y)
 
@@ -145,7 +146,7 @@ unfolding collide
 questions-in-order = record { first-refused = λ t u n k e. rw e; second-refused = λ t u s n k e f. rw (e, f) }
 
 -- what two targets share in bytes
-bytes-shared : (t u : Text) (s r : Spec) (d : Text) → TwoSpecs t u s r → octets t ≡ true → octets u ≡ true → (o n : Option Form) → target s ≡ o → target r ≡ n → sharedBy o n ≡ some d → (octets d ≡ true) × WrittenInBytes s d × WrittenInBytes r d
+bytes-shared : (t u : Text) (s r : Spec) (d : Text) → TwoSpecs 0 t u s r → octets t ≡ true → octets u ≡ true → (o n : Option Form) → target s ≡ o → target r ≡ n → sharedBy o n ≡ some d → (octets d ≡ true) × WrittenInBytes s d × WrittenInBytes r d
 bytes-shared t u s r d h p q none n x y e = absurd (let z : _≡_ {A = ℕ} 0 1 = cc in omega arith)
 bytes-shared t u s r d h p q (some f) none x y e = absurd (let z : _≡_ {A = ℕ} 0 1 = cc in omega arith)
 bytes-shared t u s r d h p q (some f) (some g) x y e =

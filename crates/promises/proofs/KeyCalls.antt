@@ -2,12 +2,13 @@
 use Prim.Native.Nat.{ℕ}
 use native.Mathlib.Omega.{arith}
 use mathlib.Core.Path.{_≡_, sym, ap, _∙_}
+use mathlib.Core.Logic.{_↔_}
 use mathlib.Core.Option.{none}
 use Rattle.meaning.specs.Bytes.{Text}
 use Rattle.meaning.specs.Spec.{accepted, Spec, readSpec}
 use Rattle.meaning.specs.Instruction.{instruction, canonicalText}
 use Rattle.meaning.specs.Entries.{instructed, toBstring}
-use Rattle.promises.specs.Terms.{OneCall, MetOne, bytesOf, Leaves}
+use Rattle.promises.specs.Terms.{TwoSpecs, OneCall, MetOne, bytesOf, Leaves}
 use Rattle.promises.specs.KeyCalls.{KeyAnswered, KeyTold, KeysToldExactly, KeysToldReadBack, LongKeysTold, PlusNeverToldBack, KeysTold}
 use Rattle.promises.proofs.Leaving.{one-accepted, same-one, one-leaves, one-answers, one-turned}
 use Rattle.promises.proofs.Refusals.{and-accepted, to-bstring-above}
@@ -30,22 +31,22 @@ key-told op t c m z =
     (x .0, x .1, text-leaves op t (x .0) c (x .1) m z)
 
 -- two accepted specs have equal answers for their instructions exactly if these are equal
-answers-equal : (op : ℕ) (t u : Text) (s r : Spec) → readSpec op t ≡ accepted s → readSpec op u ≡ accepted r → instructed op t ≡ instructed op u → instruction op s ≡ instruction op r
-answers-equal op t u s r e f q =
-    let w : accepted (instruction op s) ≡ accepted (instruction op r) = sym (every-accepted-has-key op t s e .0) ∙ q ∙ every-accepted-has-key op u r f .0 in
-    cc
-
-equal-answers : (op : ℕ) (t u : Text) (s r : Spec) → readSpec op t ≡ accepted s → readSpec op u ≡ accepted r → instruction op s ≡ instruction op r → instructed op t ≡ instructed op u
-equal-answers op t u s r e f q = every-accepted-has-key op t s e .0 ∙ ap accepted q ∙ sym (every-accepted-has-key op u r f .0)
+answers-equal : (op : ℕ) (t u : Text) (s r : Spec) → TwoSpecs op t u s r → (instructed op t ≡ instructed op u) ↔ (instruction op s ≡ instruction op r)
+answers-equal op t u s r h =
+    let a = every-accepted-has-key op t s (h .first) .0 in
+    let b = every-accepted-has-key op u r (h .second) .0 in
+    ((λ q. let w : accepted (instruction op s) ≡ accepted (instruction op r) = sym a ∙ q ∙ b in cc), (λ q. a ∙ ap accepted q ∙ sym b))
 
 pub keys-told-exactly : KeysToldExactly
-keys-told-exactly op t u c d m y n z =
-    let k = key-told op t c m y in
-    let l = key-told op u d n z in
-    let x = keys-exactly op t u (k .0) (l .0) (k .1) (l .1) in
+keys-told-exactly op t u c d h =
+    let k = key-told op t c (h .first-met) (h .first-done) in
+    let l = key-told op u d (h .second-met) (h .second-done) in
+    let two : TwoSpecs op t u (k .0) (l .0) = record { first = k .1; second = l .1 } in
+    let x = keys-exactly op t u (k .0) (l .0) two in
+    let y = answers-equal op t u (k .0) (l .0) two in
     let a = k .2 .front in
     let b = l .2 .front in
-    ((λ q. equal-answers op t u (k .0) (l .0) (k .1) (l .1) (x .0 (sym a ∙ q ∙ b))), (λ q. a ∙ x .1 (answers-equal op t u (k .0) (l .0) (k .1) (l .1) q) ∙ sym b))
+    ((λ q. y .1 (x .0 (sym a ∙ q ∙ b))), (λ q. a ∙ x .1 (y .0 q) ∙ sym b))
 
 pub keys-told-read-back : KeysToldReadBack
 keys-told-read-back op t s c e m z h b =
@@ -68,7 +69,7 @@ plus-never-told-back op t s c e m z b =
     let l = text-leaves op t s c e m z in
     let k = every-accepted-has-key op t s e .0 in
     let never : instructed op (bytesOf c) ≡ instructed op t → ⊥ = λ q. plus-never-reads-back op s b (ap (instructed op) (sym (l .front)) ∙ q ∙ k) in
-    (never, λ d n y q. never (keys-told-exactly op (bytesOf c) t d c n y m z .0 q))
+    (never, λ d n y q. never (keys-told-exactly op (bytesOf c) t d c (record { first-met = n; first-done = y; second-met = m; second-done = z }) .0 q))
 
 -- all of it
 pub keys-told : KeysTold

@@ -13,8 +13,11 @@ use Rattle.meaning.specs.Limits.{specBytes}
 use Rattle.meaning.specs.Spec.{Answer, accepted, refused, Normal, Force, Spec, readSpec}
 use Rattle.meaning.specs.Instruction.{instruction, canonicalText}
 use Rattle.meaning.specs.Rows.{Row}
+use Rattle.meaning.specs.Entries.{toBstring}
 use Rattle.meaning.specs.Everything.{everything}
 use Rattle.promises.specs.Accepted.{AcceptedSpec}
+use Rattle.promises.specs.Terms.{MetOne}
+use Rattle.promises.specs.KeyCalls.{TwoTold}
 use Rattle.promises.specs.KeyVariants.{KeysAcrossOperations, KeysOfEqualSpecs, KeysOfAnySpecs, KeysWithoutForce, SameKeysInPush, SameKeysInAnyPlace, TellsApart, ApartIsEnough, TogetherIsEnough, ReadBackOfAnyLength, KeysFit, KeysWithinTwo, ReadBackOfAnySource, ReadBackIsAccepted, NoPlusReadsBack, ReadBackIsTheSame, KeysToldThoughRefused, KeysToldOfBuffer, FalseKeyVariants, KeyCallsMet}
 use Rattle.promises.proofs.Laws.{in-left, in-cons}
 use Rattle.promises.proofs.Keys.{every-accepted-has-key}
@@ -42,7 +45,7 @@ across-operations f =
 equal-specs : KeysOfEqualSpecs → ⊥
 unfolding everything
 equal-specs f =
-    let e = f 1 (bytes "a") (bytes "a:a") (only (bytes "a")) (twoSided Normal (bytes "a") (bytes "a")) refl refl refl in
+    let e = f 1 (bytes "a") (bytes "a:a") (only (bytes "a")) (twoSided Normal (bytes "a") (bytes "a")) (record { first = refl; second = refl }) refl in
     some-none (sym (ap (λ (s : Spec). s .destination) e))
 
 -- the source `+a` without force, which no text gives, and the source `a` with force
@@ -77,7 +80,7 @@ any-specs f =
 without-force : KeysWithoutForce → ⊥
 unfolding everything
 without-force f =
-    let e = f 0 (bytes "a:b") (bytes "+a:b") (twoSided Normal (bytes "a") (bytes "b")) (twoSided Force (bytes "a") (bytes "b")) refl refl .1 refl in
+    let e = f 0 (bytes "a:b") (bytes "+a:b") (twoSided Normal (bytes "a") (bytes "b")) (twoSided Force (bytes "a") (bytes "b")) (record { first = refl; second = refl }) .1 refl in
     omega (arith, ap (λ (t : Text). length t) e)
 
 -- the destination of the first row
@@ -88,7 +91,7 @@ firstDestination (r ∷ l) = r .destination
 -- push `a` and `a:a` on the name `refs/heads/a`: a row without destination, and one with it
 in-push : SameKeysInPush → ⊥
 unfolding everything
-in-push f = some-none (sym (ap firstDestination (f (bytes "a") (bytes "a:a") (only (bytes "a")) (twoSided Normal (bytes "a") (bytes "a")) (bytes "refs/heads/a" ∷ []) refl refl refl)))
+in-push f = some-none (sym (ap firstDestination (f (bytes "a") (bytes "a:a") (only (bytes "a")) (twoSided Normal (bytes "a") (bytes "a")) (bytes "refs/heads/a" ∷ []) (record { first = refl; second = refl }) refl)))
 
 -- `a`, and `a` twice, have the same keys
 once-twice : (k : Text) → In k (bytes "a" ∷ []) ↔ In k (bytes "a" ∷ bytes "a" ∷ [])
@@ -109,8 +112,8 @@ in-any-place f =
 
 -- the text as it was spelt is the same only of the same spec
 spelt-apart : TellsApart (λ op t. t)
-spelt-apart op t u s r e f q =
-    let w : accepted s ≡ accepted r = sym e ∙ ap (readSpec op) q ∙ f in
+spelt-apart op t u s r h q =
+    let w : accepted s ≡ accepted r = sym (h .first) ∙ ap (readSpec op) q ∙ h .second in
     let z : s ≡ r = cc in
     ap (instruction op) z
 
@@ -118,14 +121,14 @@ spelt-apart op t u s r e f q =
 apart-enough : ApartIsEnough → ⊥
 unfolding everything
 apart-enough f =
-    let e = f (λ op t. t) spelt-apart 1 (bytes "a") (bytes "a:a") (only (bytes "a")) (twoSided Normal (bytes "a") (bytes "a")) refl refl refl in
+    let e = f (λ op t. t) spelt-apart 1 (bytes "a") (bytes "a:a") (only (bytes "a")) (twoSided Normal (bytes "a") (bytes "a")) (record { first = refl; second = refl }) refl in
     omega (arith, ap (λ (t : Text). length t) e)
 
 -- one text for all is the same of all, also of `a` and `b`
 together-enough : TogetherIsEnough → ⊥
 unfolding everything
 together-enough f =
-    let e = f (λ op t. []) (λ op t u s r x y z. refl) 0 (bytes "a") (bytes "b") (only (bytes "a")) (only (bytes "b")) refl refl refl in
+    let e = f (λ op t. []) (λ op t u s r h q. refl) 0 (bytes "a") (bytes "b") (only (bytes "a")) (only (bytes "b")) (record { first = refl; second = refl }) refl in
     let z : _≡_ {A = ℕ} 97 98 = cc in omega arith
 
 -- Reading back
@@ -201,7 +204,9 @@ though-refused f =
 of-buffer : KeysToldOfBuffer → ⊥
 unfolding everything
 of-buffer f =
-    let e = f 0 (bytes "a") (bytes "a") (writing (bytes "a") (bytes "x")) (writing (bytes "a") (bytes "xy")) (writing-met _ (bytes "a") (bytes "x") refl (lit≤ tt)) refl (writing-met _ (bytes "a") (bytes "xy") refl (lit≤ tt)) refl .1 refl in
+    let met : (b : Text) → 1 ≤ length b → MetOne (toBstring 0 (bytes "a")) (writing (bytes "a") b) = λ b h. writing-met _ (bytes "a") b refl h in
+    let two : TwoTold 0 (bytes "a") (bytes "a") (writing (bytes "a") (bytes "x")) (writing (bytes "a") (bytes "xy")) = record { first-met = met (bytes "x") (lit≤ tt); first-done = refl; second-met = met (bytes "xy") (lit≤ tt); second-done = refl } in
+    let e = f 0 (bytes "a") (bytes "a") (writing (bytes "a") (bytes "x")) (writing (bytes "a") (bytes "xy")) two .1 refl in
     omega (arith, ap (λ (t : Text). length t) e)
 
 -- none of them holds

@@ -14,7 +14,7 @@ use Rattle.meaning.specs.Limits.{specBytes}
 use Rattle.meaning.specs.Spec.{accepted, Mode, Normal, Force, Negative, Spec, push, modeOfByte, sidesOf, left, sourceOf, specFrom, specOf, specRefusal, readSpec}
 use Rattle.meaning.specs.Instruction.{Instruction, fetchOnly, fetchExclude, fetchAndUpdate, pushAllMatchingBranches, pushDelete, pushMatching, pushExclude, fetchInstruction, pushSides, pushInstruction, instruction, instructionText, canonicalText}
 use Rattle.meaning.specs.Entries.{instructed, toBstring}
-use Rattle.promises.specs.Terms.{canonicalTexts, plusOnly}
+use Rattle.promises.specs.Terms.{TwoSpecs, canonicalTexts, plusOnly}
 use Rattle.promises.specs.Keys.{EveryAcceptedHasKey, KeysExactly, KeysReadBack, LongKeysRefused, PlusNeverReadsBack, SameKeysSameMeaning, Keys}
 use Rattle.promises.proofs.Laws.{and-left, or-right}
 use Rattle.promises.proofs.Splitting.{sides-length}
@@ -76,9 +76,9 @@ text-tells op i h = rw (plus-test op i h) (go (plusOnly i) refl)
 -- keys are equal exactly if the instructions are
 pub keys-exactly : KeysExactly
 unfolding canonicalText
-keys-exactly op t u s r e f =
-    let a = text-tells op (instruction op s) (readable op t s e .is-fine) in
-    let b = text-tells op (instruction op r) (readable op u r f .is-fine) in
+keys-exactly op t u s r h =
+    let a = text-tells op (instruction op s) (readable op t s (h .first) .is-fine) in
+    let b = text-tells op (instruction op r) (readable op u r (h .second) .is-fine) in
     ((λ q. sym a ∙ ap (toldBy op) q ∙ b), (λ q. ap instructionText q))
 
 -- Reading back
@@ -177,8 +177,8 @@ plus-never-reads-back op s b f =
 -- Groups with the same keys
 
 -- two accepted fetch specs with one key are one, but for the `+` of a fetch-only
-same-calm : (s r : Spec) (t u : Text) → readSpec 0 t ≡ accepted s → readSpec 0 u ≡ accepted r → canonicalText 0 s ≡ canonicalText 0 r → calm s ≡ calm r
-same-calm s r t u e f q = sym (calm-plain s t e) ∙ ap plain (keys-exactly 0 t u s r e f .0 q) ∙ calm-plain r u f
+same-calm : (t u : Text) (s r : Spec) → TwoSpecs 0 t u s r → canonicalText 0 s ≡ canonicalText 0 r → calm s ≡ calm r
+same-calm t u s r h q = sym (calm-plain s t (h .first)) ∙ ap plain (keys-exactly 0 t u s r h .0 q) ∙ calm-plain r u (h .second)
 
 -- so for every place of two groups
 all-calm : (group group′ : List Spec) → ((s : Spec) → In s group → (t : Text) × (readSpec 0 t ≡ accepted s)) → ((s : Spec) → In s group′ → (t : Text) × (readSpec 0 t ≡ accepted s)) → canonicalTexts group ≡ canonicalTexts group′ → map calm group ≡ map calm group′
@@ -190,7 +190,7 @@ all-calm (s ∷ group) (r ∷ group′) h k q =
     let b : canonicalTexts group ≡ canonicalTexts group′ = cc in
     let e = h s here in
     let f = k r here in
-    rw (same-calm s r (e .0) (f .0) (e .1) (f .1) a, all-calm group group′ (λ x m. h x (there m)) (λ x m. k x (there m)) b)
+    rw (same-calm (e .0) (f .0) s r (record { first = e .1; second = f .1 }) a, all-calm group group′ (λ x m. h x (there m)) (λ x m. k x (there m)) b)
 
 pub same-keys-same-meaning : SameKeysSameMeaning
 same-keys-same-meaning specs specs′ group group′ e f q = same-meaning specs specs′ group group′ e f (all-calm group group′ (group-texts 0 specs group e) (group-texts 0 specs′ group′ f) q)

@@ -12,8 +12,8 @@ use Rattle.meaning.specs.Spec.{accepted, Spec}
 use Rattle.meaning.specs.Match.{literal, pattern, formOf, completed, mapped, forward}
 use Rattle.meaning.specs.Listing.{reverseRows}
 use Rattle.meaning.specs.Collide.{collision, collide, collideBytes}
-use Rattle.promises.specs.Terms.{MaybeCall, MetMaybe}
-use Rattle.promises.specs.Collisions.{WrittenTo, TwoSpecs, NoneIn}
+use Rattle.promises.specs.Terms.{TwoSpecs, MaybeCall, MetMaybe}
+use Rattle.promises.specs.Collisions.{WrittenTo, NoneIn}
 
 -- What is written
 
@@ -21,7 +21,7 @@ use Rattle.promises.specs.Collisions.{WrittenTo, TwoSpecs, NoneIn}
 abbrev pub YesByTwoNames : Type 0
 YesByTwoNames =
     (t u : Text) (s r : Spec) (d : Text)
-    → TwoSpecs t u s r
+    → TwoSpecs 0 t u s r
     → collide t u ≡ accepted (some d)
     → (n : Text) × (m : Text) × (forward s n ≡ mapped (some d)) × (forward r m ≡ mapped (some d)) × (n ≡ m → ⊥)
 
@@ -29,7 +29,7 @@ YesByTwoNames =
 abbrev pub YesByNames : Type 0
 YesByNames =
     (t u : Text) (s r : Spec) (d : Text)
-    → TwoSpecs t u s r
+    → TwoSpecs 0 t u s r
     → collide t u ≡ accepted (some d)
     → (n : Text) × (forward s n ≡ mapped (some d))
 
@@ -37,7 +37,7 @@ YesByNames =
 abbrev pub YesByShortNames : Type 0
 YesByShortNames =
     (t u : Text) (s r : Spec) (d : Text)
-    → TwoSpecs t u s r
+    → TwoSpecs 0 t u s r
     → collide t u ≡ accepted (some d)
     → (e : Text) × (n : Text) × (m : Text) × (length n ≤ nameBytes) × (length m ≤ nameBytes) × (forward s n ≡ mapped (some e)) × (forward r m ≡ mapped (some e))
 
@@ -45,7 +45,7 @@ YesByShortNames =
 abbrev pub YesByGoodNames : Type 0
 YesByGoodNames =
     (t u : Text) (s r : Spec) (d : Text)
-    → TwoSpecs t u s r
+    → TwoSpecs 0 t u s r
     → collide t u ≡ accepted (some d)
     → (e : Text) × (n : Text) × (namePasses n ≡ true) × (forward s n ≡ mapped (some e)) × WrittenTo r e
 
@@ -67,7 +67,7 @@ NoByLength = (t u : Text) (c : MaybeCall) → MetMaybe (collideBytes t u) c → 
 abbrev pub LiteralsAsSpelt : Type 0
 LiteralsAsSpelt =
     (t u : Text) (s r : Spec) (d e : Text)
-    → TwoSpecs t u s r
+    → TwoSpecs 0 t u s r
     → s .destination ≡ some d
     → formOf d ≡ literal d
     → r .destination ≡ some e
@@ -79,7 +79,7 @@ LiteralsAsSpelt =
 abbrev pub OverlapCounts : Type 0
 OverlapCounts =
     (t u : Text) (s r : Spec) (d e a b : Text)
-    → TwoSpecs t u s r
+    → TwoSpecs 0 t u s r
     → s .destination ≡ some d
     → formOf d ≡ literal d
     → r .destination ≡ some e
@@ -91,7 +91,7 @@ OverlapCounts =
 abbrev pub StartsAreEnough : Type 0
 StartsAreEnough =
     (t u : Text) (s r : Spec) (d e a b a′ b′ : Text)
-    → TwoSpecs t u s r
+    → TwoSpecs 0 t u s r
     → s .destination ≡ some d
     → formOf d ≡ pattern a b
     → r .destination ≡ some e

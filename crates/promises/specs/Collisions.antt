@@ -15,6 +15,7 @@ use Rattle.meaning.specs.Match.{literal, pattern, formOf, completed, mapped, fo
 use Rattle.meaning.specs.Listing.{objectRows, forwardRows}
 use Rattle.meaning.specs.View.{nth}
 use Rattle.meaning.specs.Collide.{collide}
+use Rattle.promises.specs.Terms.{TwoSpecs}
 use Rattle.promises.specs.Facts.{isByte}
 
 -- "The names may be any bytes of any length, beyond question 15 too; the name rules aren't asked of them. [..] An object source counts
@@ -24,11 +25,6 @@ pub data WrittenTo (s : Spec) (d : Text) : Type 0 where
   byName : (name : Text) → forward s name ≡ mapped (some d) → WrittenTo s d
   byObject : (r : Row) → In r (objectRows (0, s)) → r .destination ≡ some d → WrittenTo s d
 
--- two accepted fetch specs
-pub record TwoSpecs (t u : Text) (s r : Spec) : Type 0 where
-  pub first : readSpec 0 t ≡ accepted s
-  pub second : readSpec 0 u ≡ accepted r
-
 -- "[..] can some name under the first and some name under the second be written to one destination? [..] A yes comes with a colliding
 -- destination [..]. A no means that none exists."
 -- The report answers one of the two: a yes, and its destination is written to under both; or a no, and none is.
@@ -37,14 +33,14 @@ pub data Reported (t u : Text) (s r : Spec) : Type 0 where
   never : collide t u ≡ accepted none → ((d : Text) → WrittenTo s d → WrittenTo r d → ⊥) → Reported t u s r
 
 abbrev pub CollidesExactly : Type 0
-CollidesExactly = (t u : Text) (s r : Spec) → TwoSpecs t u s r → Reported t u s r
+CollidesExactly = (t u : Text) (s r : Spec) → TwoSpecs 0 t u s r → Reported t u s r
 
 -- the same as two equivalences
 abbrev pub YesExactly : Type 0
-YesExactly = (t u : Text) (s r : Spec) → TwoSpecs t u s r → ((d : Text) × (collide t u ≡ accepted (some d))) ↔ ((d : Text) × WrittenTo s d × WrittenTo r d)
+YesExactly = (t u : Text) (s r : Spec) → TwoSpecs 0 t u s r → ((d : Text) × (collide t u ≡ accepted (some d))) ↔ ((d : Text) × WrittenTo s d × WrittenTo r d)
 
 abbrev pub NoExactly : Type 0
-NoExactly = (t u : Text) (s r : Spec) → TwoSpecs t u s r → (collide t u ≡ accepted none) ↔ ((d : Text) → WrittenTo s d → WrittenTo r d → ⊥)
+NoExactly = (t u : Text) (s r : Spec) → TwoSpecs 0 t u s r → (collide t u ≡ accepted none) ↔ ((d : Text) → WrittenTo s d → WrittenTo r d → ⊥)
 
 -- the longer of two texts
 abbrev pub longer : Text → Text → Text
@@ -59,7 +55,7 @@ startsAndEnds a b a′ b′ = (begins a a′ or begins a′ a) and (ends b b′ 
 abbrev pub PatternsCollide : Type 0
 PatternsCollide =
     (t u : Text) (s r : Spec) (d e a b a′ b′ : Text)
-    → TwoSpecs t u s r
+    → TwoSpecs 0 t u s r
     → s .destination ≡ some d
     → formOf d ≡ pattern a b
     → r .destination ≡ some e
@@ -71,7 +67,7 @@ PatternsCollide =
 abbrev pub LiteralsCollide : Type 0
 LiteralsCollide =
     (t u : Text) (s r : Spec) (d e : Text)
-    → TwoSpecs t u s r
+    → TwoSpecs 0 t u s r
     → s .destination ≡ some d
     → formOf d ≡ literal d
     → r .destination ≡ some e
@@ -82,7 +78,7 @@ LiteralsCollide =
 abbrev pub LiteralAndPatternCollide : Type 0
 LiteralAndPatternCollide =
     (t u : Text) (s r : Spec) (d e a b : Text)
-    → TwoSpecs t u s r
+    → TwoSpecs 0 t u s r
     → s .destination ≡ some d
     → formOf d ≡ literal d
     → r .destination ≡ some e
@@ -93,7 +89,7 @@ LiteralAndPatternCollide =
 abbrev pub NothingCollides : Type 0
 NothingCollides =
     (t u : Text) (s r : Spec)
-    → TwoSpecs t u s r
+    → TwoSpecs 0 t u s r
     → (isNegative (s .mode) or absent (s .destination) or isNegative (r .mode) or absent (r .destination)) ≡ true
     → collide t u ≡ accepted none
 
@@ -105,7 +101,7 @@ pub record QuestionsInOrder : Type 0 where
 
 -- The answer on two accepted specs does not depend on their order.
 abbrev pub EitherOrder : Type 0
-EitherOrder = (t u : Text) (s r : Spec) → TwoSpecs t u s r → collide u t ≡ collide t u
+EitherOrder = (t u : Text) (s r : Spec) → TwoSpecs 0 t u s r → collide u t ≡ collide t u
 
 -- What is written under a spec is what its forward listing can have as a destination, for some items.
 abbrev pub WrittenIsListed : Type 0
@@ -120,7 +116,7 @@ WrittenIsListed =
 abbrev pub NoneIn : (List Spec → List Text → List Row) → Type 0
 NoneIn listing =
     (t u : Text) (s r : Spec)
-    → TwoSpecs t u s r
+    → TwoSpecs 0 t u s r
     → collide t u ≡ accepted none
     → (group : List Spec) (names : List Text) (q p : Row) (d : Text)
     → In q (listing group names)
@@ -144,7 +140,7 @@ pub data WrittenInBytes (s : Spec) (d : Text) : Type 0 where
 abbrev pub YesInBytes : Type 0
 YesInBytes =
     (t u : Text) (s r : Spec) (d : Text)
-    → TwoSpecs t u s r
+    → TwoSpecs 0 t u s r
     → every isByte t ≡ true
     → every isByte u ≡ true
     → collide t u ≡ accepted (some d)

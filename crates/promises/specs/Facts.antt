@@ -2,14 +2,14 @@
 use Prim.Native.Nat.{ℕ, zero, suc, _+_, _-_, _*_, _^_, _≤_, _<_}
 use mathlib.Core.Path.{_≡_}
 use mathlib.Core.Logic.{_↔_}
-use mathlib.Core.Bool.{Bool, true, false}
+use mathlib.Core.Bool.{Bool, true, false, not}
 use mathlib.Core.List.{List, [], _∷_, _++_, map}
 use mathlib.Core.Option.{some}
 use lib.Dec.{ltb}
 use lib.ListN.{length}
-use Rattle.meaning.specs.Bytes.{Text, every, byte, colon, hasByte, inOrder, In, Ascending}
+use Rattle.meaning.specs.Bytes.{Text, bytes, _or_, every, byte, colon, hasByte, begins, present, orEmpty, inOrder, In, Ascending}
 use Rattle.meaning.specs.Limits.{mappedBytes, rowListBytes, specCount, itemCount, decimalDigits}
-use Rattle.meaning.specs.Spec.{Answer, accepted, Spec, one, two, sidesOf, readSpec}
+use Rattle.meaning.specs.Spec.{Answer, accepted, Spec, isNegative, one, two, sidesOf, readSpec}
 use Rattle.meaning.specs.Prefix.{GroupPrefixes}
 use Rattle.meaning.specs.Number.{recordBytes, Reader}
 use Rattle.meaning.specs.Lists.{recordThen, recordsFrom, specRecord, itemRecord, readSpecs, readItems}
@@ -20,6 +20,7 @@ use Rattle.meaning.specs.Validation.{ConflictSource, rowSource, Conflict, confl
 use Rattle.meaning.specs.Entries.{matchLhs, matchRhs}
 use Rattle.meaning.specs.View.{nth, Part, sourceView, partText}
 use Rattle.meaning.specs.Deliveries.{decimal}
+use Rattle.promises.specs.Terms.{noPlus}
 
 -- a text splits at its last colon, and only there
 pub record LastColon : Type 0 where
@@ -153,3 +154,7 @@ ReadRowsFit =
     → every isByte s ≡ true
     → readRows specs s ≡ accepted rows
     → ((r : Row) → In r rows → ReadRowFits specs r) × (length rows ≤ rowListBytes)
+
+-- the exception of demand 3 and of document 02, W13, in the words of document 01: a fetch-only spec "is not negative and has no destination"
+abbrev pub NoPlusByTheSpec : Type 0
+NoPlusByTheSpec = (s : Spec) → noPlus s ≡ (isNegative (s .mode) or present (s .destination) or not (begins (bytes "+") (orEmpty (s .source))))

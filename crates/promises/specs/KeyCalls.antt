@@ -30,15 +30,19 @@ KeyTold =
     → c .refusal ≡ 0
     → (s : Spec) × (readSpec op t ≡ accepted s) × Leaves (c .before) (c .after) (canonicalText op s) (c .size)
 
+-- two calls for canonical texts of one operation, which tell no refusal
+pub record TwoTold (op : ℕ) (t u : Text) (c d : OneCall) : Type 0 where
+  pub first-met : MetOne (toBstring op t) c
+  pub first-done : c .refusal ≡ 0
+  pub second-met : MetOne (toBstring op u) d
+  pub second-done : d .refusal ≡ 0
+
 -- "For two accepted specs of one operation the texts are equal exactly if the instructions are [..]."
 -- Two such calls answer the same bytes exactly if the instructions of the two texts are equal.
 abbrev pub KeysToldExactly : Type 0
 KeysToldExactly =
     (op : ℕ) (t u : Text) (c d : OneCall)
-    → MetOne (toBstring op t) c
-    → c .refusal ≡ 0
-    → MetOne (toBstring op u) d
-    → d .refusal ≡ 0
+    → TwoTold op t u c d
     → (bytesOf c ≡ bytesOf d) ↔ (instructed op t ≡ instructed op u)
 
 -- "Reading a canonical text that fits the limit gives an equal instruction, except for those sources."

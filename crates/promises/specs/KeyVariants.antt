@@ -14,7 +14,8 @@ use Rattle.meaning.specs.Lists.{readSpecs}
 use Rattle.meaning.specs.Listing.{forwardRows}
 use Rattle.meaning.specs.Entries.{instructed, toBstring}
 use Rattle.promises.specs.Accepted.{AcceptedSpec}
-use Rattle.promises.specs.Terms.{canonicalTexts, plusOnly, unforced, OneCall, MetOne, bytesOf}
+use Rattle.promises.specs.Terms.{TwoSpecs, canonicalTexts, plusOnly, unforced, OneCall, MetOne, bytesOf}
+use Rattle.promises.specs.KeyCalls.{TwoTold}
 
 -- Equal keys
 
@@ -31,8 +32,7 @@ KeysAcrossOperations =
 abbrev pub KeysOfEqualSpecs : Type 0
 KeysOfEqualSpecs =
     (op : ℕ) (t u : Text) (s r : Spec)
-    → readSpec op t ≡ accepted s
-    → readSpec op u ≡ accepted r
+    → TwoSpecs op t u s r
     → canonicalText op s ≡ canonicalText op r
     → s ≡ r
 
@@ -44,16 +44,14 @@ KeysOfAnySpecs = (op : ℕ) (s r : Spec) → AcceptedSpec op s → AcceptedSpec 
 abbrev pub KeysWithoutForce : Type 0
 KeysWithoutForce =
     (op : ℕ) (t u : Text) (s r : Spec)
-    → readSpec op t ≡ accepted s
-    → readSpec op u ≡ accepted r
+    → TwoSpecs op t u s r
     → (canonicalText op s ≡ canonicalText op r) ↔ (unforced (instruction op s) ≡ unforced (instruction op r))
 
 -- two pushes with one key have the same rows
 abbrev pub SameKeysInPush : Type 0
 SameKeysInPush =
     (t u : Text) (s r : Spec) (names : List Text)
-    → readSpec 1 t ≡ accepted s
-    → readSpec 1 u ≡ accepted r
+    → TwoSpecs 1 t u s r
     → canonicalText 1 s ≡ canonicalText 1 r
     → forwardRows (s ∷ []) names ≡ forwardRows (r ∷ []) names
 
@@ -72,8 +70,7 @@ SameKeysInAnyPlace =
 abbrev pub TellsApart : (ℕ → Text → Text) → Type 0
 TellsApart key =
     (op : ℕ) (t u : Text) (s r : Spec)
-    → readSpec op t ≡ accepted s
-    → readSpec op u ≡ accepted r
+    → TwoSpecs op t u s r
     → key op t ≡ key op u
     → instruction op s ≡ instruction op r
 
@@ -81,8 +78,7 @@ TellsApart key =
 abbrev pub TellsTogether : (ℕ → Text → Text) → Type 0
 TellsTogether key =
     (op : ℕ) (t u : Text) (s r : Spec)
-    → readSpec op t ≡ accepted s
-    → readSpec op u ≡ accepted r
+    → TwoSpecs op t u s r
     → instruction op s ≡ instruction op r
     → key op t ≡ key op u
 
@@ -162,10 +158,7 @@ KeysToldThoughRefused =
 abbrev pub KeysToldOfBuffer : Type 0
 KeysToldOfBuffer =
     (op : ℕ) (t u : Text) (c d : OneCall)
-    → MetOne (toBstring op t) c
-    → c .refusal ≡ 0
-    → MetOne (toBstring op u) d
-    → d .refusal ≡ 0
+    → TwoTold op t u c d
     → (c .after ≡ d .after) ↔ (instructed op t ≡ instructed op u)
 
 -- none of them holds

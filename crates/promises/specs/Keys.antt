@@ -14,7 +14,7 @@ use Rattle.meaning.specs.Spec.{accepted, refused, Spec, readSpec}
 use Rattle.meaning.specs.Instruction.{instruction, canonicalText}
 use Rattle.meaning.specs.Lists.{readSpecs}
 use Rattle.meaning.specs.Entries.{instructed, toBstring}
-use Rattle.promises.specs.Terms.{canonicalTexts, plusOnly, SameMeaning}
+use Rattle.promises.specs.Terms.{TwoSpecs, canonicalTexts, plusOnly, SameMeaning}
 
 -- "[..] for every accepted spec of either operation [..]": each has its instruction and its key.
 abbrev pub EveryAcceptedHasKey : Type 0
@@ -28,8 +28,7 @@ EveryAcceptedHasKey =
 abbrev pub KeysExactly : Type 0
 KeysExactly =
     (op : ℕ) (t u : Text) (s r : Spec)
-    → readSpec op t ≡ accepted s
-    → readSpec op u ≡ accepted r
+    → TwoSpecs op t u s r
     → (canonicalText op s ≡ canonicalText op r) ↔ (instruction op s ≡ instruction op r)
 
 -- "Reading a canonical text that fits the limit gives an equal instruction, except for those sources."

@@ -1,4 +1,4 @@
--- The words of demand 3, as document 01 fixes them; then those that speak of calls, document 02's too.
+-- The words of demand 3, as document 01 fixes them, and of document 02; then those that speak of calls.
 use Prim.Native.Nat.{ℕ, _<_}
 use mathlib.Core.Path.{_≡_}
 use mathlib.Core.Logic.{_↔_}
@@ -9,7 +9,7 @@ use lib.Dec.{leb}
 use lib.ListN.{length, take, drop}
 use Rattle.meaning.specs.Bytes.{Text, bytes, _and_, _or_, keep, each, begins, In}
 use Rattle.meaning.specs.Limits.{specBytes}
-use Rattle.meaning.specs.Spec.{Answer, accepted, Spec, starred}
+use Rattle.meaning.specs.Spec.{Answer, accepted, Spec, starred, readSpec}
 use Rattle.meaning.specs.Buffers.{Outputs, LengthBeside, MeetsOne, MeetsMaybe, MeetsTwo}
 use Rattle.meaning.specs.Instruction.{Instruction, fetchOnly, fetchExclude, fetchAndUpdate, pushAllMatchingBranches, pushDelete, pushMatching, pushExclude, instruction, canonicalText}
 use Rattle.meaning.specs.Number.{recordBytes}
@@ -18,6 +18,11 @@ use Rattle.meaning.specs.Rows.{Row, rowListOf, readRows}
 use Rattle.meaning.specs.Listing.{forwardRows, reverseRows}
 use Rattle.meaning.specs.Validation.{Conflict, conflicts, conflictBytes, isKept, fixOf, fixBytes, Verdict, conflicting, passing}
 use Rattle.meaning.specs.Entries.{toBstring, matchLhs, matchRhs, verdictOn, validated}
+
+-- two accepted specs of one operation
+pub record TwoSpecs (op : ℕ) (t u : Text) (s r : Spec) : Type 0 where
+  pub first : readSpec op t ≡ accepted s
+  pub second : readSpec op u ≡ accepted r
 
 -- two rows have one source: the same kind and the same bytes
 abbrev pub SameSource : Row → Row → Type 0

@@ -2,10 +2,14 @@
 use Prim.Native.Nat.{ℕ}
 use native.Mathlib.Omega.{arith}
 use mathlib.Core.Path.{_≡_, refl, sym, ap, _∙_}
+use mathlib.Core.List.{[], _∷_}
+use mathlib.Core.Option.{some}
 use lib.Dec.{lit≤}
 use Rattle.meaning.specs.Bytes.{bytes}
+use Rattle.meaning.specs.Spec.{accepted}
 use Rattle.meaning.specs.Everything.{everything}
-use Rattle.promises.specs.Terms.{bytesOf}
+use Rattle.promises.specs.Terms.{MetOne, bytesOf}
+use Rattle.promises.specs.KeyCalls.{TwoTold}
 use Rattle.promises.proofs.KeyCalls.{keys-told-exactly, keys-told-read-back}
 use Rattle.promises.proofs.CallVariants.{writing, writing-met}
 use Rattle.parse.specs.declared.types.Side.{Side}
@@ -19,8 +23,8 @@ use Rattle.refspec.specs.Keys.{KeysMeantExactly, KeysMeantBack, KeysByPl
 use Rattle.refspec.proofs.Answers.{instructed-means}
 
 keys-meant-exactly : KeysMeantExactly
-keys-meant-exactly op t u i j c d e f m y n z =
-    let k = keys-told-exactly op t u c d m y n z in
+keys-meant-exactly op t u i j c d e f h =
+    let k = keys-told-exactly op t u c d h in
     let a = instructed-means op t i e in
     let b = instructed-means op u j f in
     ((λ q. a ∙ k .0 q ∙ sym b), (λ q. k .1 (sym a ∙ q ∙ b)))
@@ -48,7 +52,9 @@ destinationStart (Refused n) = 0
 not-by-places : KeysByPlaces → ⊥
 unfolding everything suppliedPlace namedPlace placesAt placesOf parsed fetchPlaces pushPlaces instructionPlaces instructedPlaces
 not-by-places f =
-    let e = f 1 (bytes "a") (bytes "a:a") (instructedPlaces 1 (bytes "a")) (instructedPlaces 1 (bytes "a:a")) (writing (bytes "a:a") (bytes "xyz")) (writing (bytes "a:a") (bytes "xyz")) refl refl (writing-met _ (bytes "a:a") (bytes "xyz") refl (lit≤ tt)) refl (writing-met _ (bytes "a:a") (bytes "xyz") refl (lit≤ tt)) refl refl in
+    let met : MetOne (accepted (some (bytes "a:a") ∷ [])) (writing (bytes "a:a") (bytes "xyz")) = writing-met _ (bytes "a:a") (bytes "xyz") refl (lit≤ tt) in
+    let two : TwoTold 1 (bytes "a") (bytes "a:a") (writing (bytes "a:a") (bytes "xyz")) (writing (bytes "a:a") (bytes "xyz")) = record { first-met = met; first-done = refl; second-met = met; second-done = refl } in
+    let e = f 1 (bytes "a") (bytes "a:a") (instructedPlaces 1 (bytes "a")) (instructedPlaces 1 (bytes "a:a")) (writing (bytes "a:a") (bytes "xyz")) (writing (bytes "a:a") (bytes "xyz")) refl refl two refl in
     let z : _≡_ {A = ℕ} 0 2 = ap destinationStart e in
     omega arith
 

@@ -11,6 +11,7 @@ use Rattle.meaning.specs.Spec.{accepted, Spec, readSpec}
 use Rattle.meaning.specs.Instruction.{instruction}
 use Rattle.meaning.specs.Entries.{toBstring}
 use Rattle.promises.specs.Terms.{plusOnly, OneCall, MetOne, bytesOf}
+use Rattle.promises.specs.KeyCalls.{TwoTold}
 use Rattle.refspec.specs.declared.spec.Instructed.{Instructed}
 use Rattle.refspec.specs.Instructions.{instructedPlaces, instructedMeant}
 
@@ -20,10 +21,7 @@ KeysMeantExactly =
     (op : ℕ) (t u : Text) (i j : Instructed) (c d : OneCall)
     → i ≡ instructedPlaces op t
     → j ≡ instructedPlaces op u
-    → MetOne (toBstring op t) c
-    → c .refusal ≡ 0
-    → MetOne (toBstring op u) d
-    → d .refusal ≡ 0
+    → TwoTold op t u c d
     → (bytesOf c ≡ bytesOf d) ↔ (instructedMeant t i ≡ instructedMeant u j)
 
 -- "Reading a canonical text that fits the limit gives an equal instruction, except for those sources."
@@ -45,10 +43,7 @@ KeysByPlaces =
     (op : ℕ) (t u : Text) (i j : Instructed) (c d : OneCall)
     → i ≡ instructedPlaces op t
     → j ≡ instructedPlaces op u
-    → MetOne (toBstring op t) c
-    → c .refusal ≡ 0
-    → MetOne (toBstring op u) d
-    → d .refusal ≡ 0
+    → TwoTold op t u c d
     → bytesOf c ≡ bytesOf d
     → i ≡ j
 
