@@ -1,9 +1,12 @@
 //! Comparisons on all cores.
 
 use cases::Random;
-use std::sync::{
-    Mutex,
-    atomic::{AtomicBool, AtomicU64, Ordering},
+use std::{
+    sync::{
+        Mutex,
+        atomic::{AtomicBool, AtomicU64, Ordering},
+    },
+    time::Instant,
 };
 
 const THREADS: usize = 2;
@@ -31,6 +34,27 @@ impl Sample {
     fn number(self, step: u64, count: u64) -> u64 {
         let first = step * self.one_in;
         first + Random::new(self.seed, step).next() % self.one_in.min(count - first)
+    }
+}
+
+/// A run of one part: comparisons, one kind of cases after another, until a difference.
+pub struct Run<Comparison, Seen> {
+    pub comparison: Comparison,
+    pub sample: Sample,
+    pub seen: Seen,
+    began: Instant,
+}
+
+impl<Comparison, Seen: Default> Run<Comparison, Seen> {
+    pub fn new(comparison: Comparison, sample: Sample) -> Run<Comparison, Seen> {
+        Run { comparison, sample, seen: Seen::default(), began: Instant::now() }
+    }
+
+    /// Says that so many comparisons of one kind are made, and how long the run has taken. True,
+    /// since none of them differs.
+    pub fn passed(&self, what: &str, count: u64) -> bool {
+        println!("{what}: {count} comparisons, {:.1} s", self.began.elapsed().as_secs_f64());
+        true
     }
 }
 

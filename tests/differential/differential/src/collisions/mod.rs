@@ -19,12 +19,11 @@ use crate::{
     cut, groups,
     hex::to_hex,
     said,
-    work::{self, Sample},
+    work::{self, Run, Sample},
 };
 use cases::Random;
 use family::{Family, PLANS, Plan};
 use paper::RefusedSpec;
-use std::time::Instant;
 use vasigmon::{list, raw::Collision};
 
 /// How many cases a thread takes at a time.
@@ -58,7 +57,7 @@ pub fn run(comparison: Comparison, sample: Sample, count: u64) -> bool {
         let [first, second] = cases::pair(&mut Random::new(sample.seed, n));
         (Pair { first, second }, again(n))
     };
-    let mut run = Run { comparison, sample, seen: Seen::default(), began: Instant::now() };
+    let mut run = Run::<Comparison, Seen>::new(comparison, sample);
     let passed = PLANS.iter().all(|plan| run.family(plan))
         && run.pairs("grown pairs", count, grown)
         && run
@@ -93,15 +92,7 @@ fn refusal(why: RefusedSpec) -> Collision {
     Collision { refusal: why.number, which: why.which, ..Default::default() }
 }
 
-/// A run: comparisons, one kind of cases after another, until a difference.
-struct Run {
-    comparison: Comparison,
-    sample: Sample,
-    seen: Seen,
-    began: Instant,
-}
-
-impl Run {
+impl Run<Comparison, Seen> {
     /// Compares all pairs of a family, with all names tried.
     fn family(&mut self, plan: &Plan) -> bool {
         let family = Family::of(plan, self.comparison.fault);
@@ -113,7 +104,10 @@ impl Run {
             return self.differs(family.pair(*number), difference);
         }
         tallies.iter().for_each(|seen| self.seen.add_brute_force(seen));
-        self.passed(&format!("all pairs of {} specs over {}", family.specs(), plan.what), family.pairs())
+        self.passed(
+            &format!("all pairs of {} specs over {}", family.specs(), plan.what),
+            self.sample.of(family.pairs()),
+        )
     }
 
     fn in_family(&self, family: &Family, number: u64, seen: &mut Seen) -> Result<(), String> {
@@ -134,7 +128,7 @@ impl Run {
             return self.differs(pair(number).0, difference);
         }
         tallies.iter().for_each(|seen| self.seen.add(seen));
-        self.passed(what, count)
+        self.passed(what, self.sample.of(count))
     }
 
     /// Holds the report to the listings of `count` groups.
@@ -150,13 +144,7 @@ impl Run {
             return self.differs_on(group(*number));
         }
         tallies.iter().for_each(|seen| self.seen.add(seen));
-        self.passed("groups", count)
-    }
-
-    fn passed(&self, what: &str, count: u64) -> bool {
-        let seconds = self.began.elapsed().as_secs_f64();
-        println!("{what}: {} comparisons, {seconds:.1} s", self.sample.of(count));
-        true
+        self.passed("groups", self.sample.of(count))
     }
 
     /// Prints a smallest pair that shows a difference and the command that repeats it; or,

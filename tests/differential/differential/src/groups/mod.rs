@@ -18,10 +18,9 @@ use crate::{
     hex::to_hex,
     said,
     specs::records,
-    work::{self, Sample},
+    work::{self, Run, Sample},
 };
 use cases::{Random, damaged, group};
-use std::time::Instant;
 use vasigmon::{
     list,
     raw::{Part, Written},
@@ -50,7 +49,7 @@ pub fn run(comparison: Comparison, sample: Sample, count: u64) -> bool {
     let full = full::lists(sample.seed);
     let damage = Damage::of(damage::pairs());
     let lists = |(op, specs, items): Pair| Lists { op, specs, items };
-    let mut run = Run { comparison, sample, seen: Seen::default(), began: Instant::now() };
+    let mut run = Run::<Comparison, Seen>::new(comparison, sample);
     let passed = run.operations()
         && run.lists("grown groups, each for both operations", 2 * count, CHUNK, |n| {
             let again = if n % THOROUGH < 2 { Again::All } else { Again::One(n / 2) };
@@ -107,15 +106,7 @@ fn part(answer: Result<paper::Part, paper::Refused>) -> Part {
     }
 }
 
-/// A run: comparisons, one family of lists after another, until a difference.
-struct Run {
-    comparison: Comparison,
-    sample: Sample,
-    seen: Seen,
-    began: Instant,
-}
-
-impl Run {
+impl Run<Comparison, Seen> {
     /// Operations other than 0 and 1, whatever the lists.
     fn operations(&mut self) -> bool {
         let long = vec![0; 65_536];
@@ -150,12 +141,7 @@ impl Run {
             return self.differs(lists);
         }
         tallies.iter().for_each(|seen| self.seen.add(seen));
-        println!(
-            "{what}: {} comparisons, {:.1} s",
-            self.sample.of(count),
-            self.began.elapsed().as_secs_f64()
-        );
-        true
+        self.passed(what, self.sample.of(count))
     }
 
     /// Prints a smallest case of a difference and the command that repeats it.

@@ -19,10 +19,9 @@ use crate::{
     cut, groups,
     hex::to_hex,
     said,
-    work::{self, Sample},
+    work::{self, Run, Sample},
 };
 use cases::{Random, short_text, short_texts};
-use std::time::Instant;
 use vasigmon::list;
 
 /// The bytes that signs, splits and `HEAD` turn on, for all pairs of texts of up to `LONGEST`.
@@ -64,7 +63,7 @@ pub fn run(comparison: Comparison, sample: Sample, count: u64) -> bool {
         let [first, second] = cases::sharing_sides(op, &mut Random::new(sample.seed, n));
         Pair { op, first, second }
     };
-    let mut run = Run { comparison, sample, seen: Seen::default(), began: Instant::now() };
+    let mut run = Run::<Comparison, Seen>::new(comparison, sample);
     let passed = run.pairs("pairs of similar specs", (specs.len() as u64).pow(2), similar, Seen::add)
         && [0, 1].iter().all(|op| run.short(*op))
         && run.pairs("grown pairs", count, grown, Seen::add_grown)
@@ -90,15 +89,7 @@ struct Tally<'a> {
     seen: Seen,
 }
 
-/// A run: comparisons, one kind of cases after another, until a difference.
-struct Run {
-    comparison: Comparison,
-    sample: Sample,
-    seen: Seen,
-    began: Instant,
-}
-
-impl Run {
+impl Run<Comparison, Seen> {
     /// Compares `count` pairs for both operations.
     fn pairs(
         &mut self,
@@ -165,11 +156,6 @@ impl Run {
         tallies.iter().for_each(|seen| self.seen.add(seen));
         let of = if op == 0 { "fetch" } else { "push" };
         self.passed(&format!("all pairs of {count} short {of} specs"), count * (count + 1) / 2)
-    }
-
-    fn passed(&self, what: &str, count: u64) -> bool {
-        println!("{what}: {count} comparisons, {:.1} s", self.began.elapsed().as_secs_f64());
-        true
     }
 
     /// Prints a smallest pair that shows a difference and the command that repeats it.

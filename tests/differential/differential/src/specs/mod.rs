@@ -9,10 +9,9 @@ pub use ours::records;
 use crate::{
     cut,
     hex::to_hex,
-    work::{self, Sample},
+    work::{self, Run, Sample},
 };
 use cases::{FAMILIES, Random, around_the_limit, grown, of_length, short_text, short_texts};
-use std::time::Instant;
 
 /// The bytes that decide most, for all texts of up to five bytes.
 const TELLING: &[u8] = b"a*:+^/.@{~]H";
@@ -29,7 +28,7 @@ const CHUNK: u64 = 1024;
 /// Compares all short specs, long ones, and `count` grown ones.
 pub fn run(comparison: Comparison, sample: Sample, count: u64) -> bool {
     let every: Vec<u8> = (0..=255).collect();
-    let mut run = Run { comparison, sample, seen: Seen::default(), began: Instant::now() };
+    let mut run = Run::<Comparison, Seen>::new(comparison, sample);
     let passed = run.operations()
         && run.specs("texts of up to 5 telling bytes", short_texts(TELLING, 5), |n| short_text(TELLING, n))
         && run.specs("texts of up to 4 of more bytes", short_texts(MORE, 4), |n| short_text(MORE, n))
@@ -98,15 +97,7 @@ impl Seen {
     }
 }
 
-/// A run: comparisons, one family of specs after another, until a difference.
-struct Run {
-    comparison: Comparison,
-    sample: Sample,
-    seen: Seen,
-    began: Instant,
-}
-
-impl Run {
+impl Run<Comparison, Seen> {
     /// Operations other than 0 and 1, whatever the spec.
     fn operations(&mut self) -> bool {
         for op in [2, 3, 255, 256, 1 << 32, u64::MAX] {
@@ -133,8 +124,7 @@ impl Run {
             return self.differs(op, spec);
         }
         tallies.iter().for_each(|seen| self.seen.add(seen));
-        println!("{what}: {} specs, {:.1} s", self.sample.of(count), self.began.elapsed().as_secs_f64());
-        true
+        self.passed(what, 2 * self.sample.of(count))
     }
 
     /// Prints a smallest case of a difference and the command that repeats it.

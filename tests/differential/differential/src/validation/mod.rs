@@ -18,9 +18,9 @@ use crate::{
     groups,
     hex::to_hex,
     said,
-    work::{self, Sample},
+    work::{self, Run, Sample},
 };
-use std::{borrow::Cow, time::Instant};
+use std::borrow::Cow;
 use vasigmon::{Group, Items, Operation, raw::Validation};
 
 /// How many cases a thread takes at a time.
@@ -92,7 +92,7 @@ pub fn run(comparison: Comparison, sample: Sample, count: u64) -> bool {
     let full = full::cases();
     let damage = Damage::of(good::pairs());
     let again = |n| if n % THOROUGH == 0 { Again::All } else { Again::One(n) };
-    let mut run = Run { comparison, sample, seen: Seen::default(), began: Instant::now() };
+    let mut run = Run::<Comparison, Seen>::new(comparison, sample);
     let passed = run.operations()
         && run.cases("forward listings", count, CHUNK, |n| {
             (Case::of_group(groups::grown(sample.seed, n)), again(n))
@@ -125,15 +125,7 @@ fn refusal(why: paper::Refused) -> Validation {
     Validation { refusal: why.number, record: why.record.unwrap_or(0), ..Default::default() }
 }
 
-/// A run: comparisons, one family of cases after another, until a difference.
-struct Run {
-    comparison: Comparison,
-    sample: Sample,
-    seen: Seen,
-    began: Instant,
-}
-
-impl Run {
+impl Run<Comparison, Seen> {
     /// Operations other than 0 and 1, whatever the lists.
     fn operations(&mut self) -> bool {
         let long = vec![0; 1_048_577];
@@ -167,12 +159,7 @@ impl Run {
             return self.differs(case);
         }
         tallies.iter().for_each(|seen| self.seen.add(seen));
-        println!(
-            "{what}: {} comparisons, {:.1} s",
-            self.sample.of(count),
-            self.began.elapsed().as_secs_f64()
-        );
-        true
+        self.passed(what, self.sample.of(count))
     }
 
     /// Prints a smallest case of a difference and the command that repeats it.
