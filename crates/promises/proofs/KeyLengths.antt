@@ -9,18 +9,12 @@ use mathlib.Core.Option.{Option, none, some}
 use lib.ListN.{length, length-append}
 use Rattle.meaning.specs.Bytes.{Text, bytes, colon, given, orEmpty}
 use Rattle.meaning.specs.Limits.{specBytes}
-use Rattle.meaning.specs.Spec.{Mode, Normal, Force, Negative, Spec, push, modeOfByte, modeOf, signOff, unsigned, sidesOf, left, right, sourceOf, specFrom, specOf}
+use Rattle.meaning.specs.Spec.{Mode, Normal, Force, Negative, Spec, push, modeOf, unsigned, sidesOf, left, right, sourceOf, specFrom, specOf}
 use Rattle.meaning.specs.Instruction.{fetchInstruction, pushInstruction, instruction, instructionText, canonicalText}
 use Rattle.promises.specs.Keys.{KeysWithin}
-use Rattle.promises.proofs.Splitting.{sides-length}
+use Rattle.promises.proofs.Splitting.{signBytes, sign-length, sides-length}
 use Rattle.promises.proofs.ReadSources.{Source, source-is}
 use Rattle.promises.proofs.Accepted.{read-passed}
-
--- the bytes of a sign
-abbrev signBytes : Mode → ℕ
-signBytes Normal = 0
-signBytes Force = 1
-signBytes Negative = 1
 
 -- the sign, the source twice, the destination and a colon are enough for the text of any spec
 abbrev Enough : Mode → Text → Option Text → Text → Type 0
@@ -51,16 +45,6 @@ text-enough op s = go (push op)
     go : (b : Bool) → Enough (s .mode) (orEmpty (s .source)) (s .destination) (instructionText (cond b (pushInstruction (s .mode) (s .source) (s .destination)) (fetchInstruction (s .mode) (orEmpty (s .source)) (s .destination))))
     go true = push-enough (s .mode) (s .source) (s .destination)
     go false = fetch-enough (s .mode) (orEmpty (s .source)) (s .destination)
-
--- a sign and what follows it are the text
-sign-length : (t : Text) → signBytes (modeOf t) + length (unsigned t) ≤ length t
-sign-length [] = omega arith
-sign-length (x ∷ t) = go (modeOfByte x)
-  where
-    go : (m : Mode) → signBytes m + length (signOff m x t) ≤ suc (length t)
-    go Normal = omega arith
-    go Force = omega arith
-    go Negative = omega arith
 
 -- a source is no longer than `HEAD`, or than its side
 source-length : (op : ℕ) (m : Mode) (l : Text) → (length (orEmpty (sourceOf op m l)) ≤ 4) ⊎ (length (orEmpty (sourceOf op m l)) ≤ length l)

@@ -8,7 +8,7 @@ use borrow.Author.Tests.{eqb-true}
 use lib.Dec.{eqb}
 use lib.ListN.{length, length-append}
 use Rattle.meaning.specs.Bytes.{Text, colon, hasByte}
-use Rattle.meaning.specs.Spec.{Mode, Normal, Force, Negative, modeOfByte, signOff, unsigned, Sides, one, two, sidesNext, sidesOf, left, right}
+use Rattle.meaning.specs.Spec.{Mode, Normal, Force, Negative, modeOfByte, modeOf, signOff, unsigned, Sides, one, two, sidesNext, sidesOf, left, right}
 use Rattle.promises.specs.Facts.{LastColon}
 use Rattle.promises.proofs.Laws.{or-none}
 
@@ -60,15 +60,25 @@ sides-begin t = go (sidesOf t) (sides-say t)
     go (one u) h = ([], h .0 ∙ sym (append-nil u))
     go (two s u) h = (colon ∷ u, h .0)
 
--- a text without its sign is no longer
-pub unsigned-length : (t : Text) → length (unsigned t) ≤ length t
-unsigned-length [] = omega arith
-unsigned-length (x ∷ t) = go (modeOfByte x)
+-- the bytes of a sign
+abbrev pub signBytes : Mode → ℕ
+signBytes Normal = 0
+signBytes Force = 1
+signBytes Negative = 1
+
+-- a sign and what follows it are no longer than the text
+pub sign-length : (t : Text) → signBytes (modeOf t) + length (unsigned t) ≤ length t
+sign-length [] = omega arith
+sign-length (x ∷ t) = go (modeOfByte x)
   where
-    go : (m : Mode) → length (signOff m x t) ≤ suc (length t)
+    go : (m : Mode) → signBytes m + length (signOff m x t) ≤ suc (length t)
     go Normal = omega arith
     go Force = omega arith
     go Negative = omega arith
+
+-- a text without its sign is no longer
+pub unsigned-length : (t : Text) → length (unsigned t) ≤ length t
+unsigned-length t = omega (arith, sign-length t)
 
 -- a sign is taken off the first byte, whatever follows
 pub unsigned-append : (x : ℕ) (t rest : Text) → unsigned ((x ∷ t) ++ rest) ≡ unsigned (x ∷ t) ++ rest
