@@ -1,4 +1,5 @@
 // Copying into a lent buffer.
+#![tactic(auto)]
 ghost use Rattle.std.specs.Prelude.{◌≡◌, [], ◌∷◌, ◌+◌, ◌<◌, ◌≤◌, length};
 ghost use Rattle.meaning.specs.Bytes.{lower_byte, lower};
 ghost use Rattle.buffer.specs.Splice.{splice};
@@ -37,7 +38,7 @@ fn lower_byte(b: u8) -> u8
     ensures { result ≡ lower_byte b }
 {
     match b {
-        b'_a'..=b'_z' => b + 32,
+        b'A'..=b'Z' => b + 32,
         _ => b,
     }
 }

@@ -1,4 +1,6 @@
 // Two texts: the one begins with the other, ends with it, or is it. Several bytes are compared at once.
+#![tactic(auto)]
+
 ghost use Rattle.std.specs.Prelude.{◌≡◌, ◌+◌, ◌<◌, ◌≤◌, length, drop};
 ghost use Rattle.meaning.specs.Bytes.{◌and◌, same, begins, ends};
 

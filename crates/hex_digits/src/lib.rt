@@ -1,4 +1,5 @@
 // Hexadecimal digits, and object ids.
+#![tactic(auto)]
 ghost use Rattle.std.specs.Prelude.{◌≡◌};
 ghost use Rattle.meaning.specs.Bytes.{every, hex_digit, lower_hex_digit, object_id};
 
@@ -9,7 +10,7 @@ fn hex_digit(b: u8) -> bool
     ensures { result ≡ hex_digit b }
 {
     match b {
-        b'0'..=b'9' | b'_a'..=b'_f' | b'a'..=b'f' => true,
+        b'0'..=b'9' | b'A'..=b'F' | b'a'..=b'f' => true,
         _ => false,
     }
 }

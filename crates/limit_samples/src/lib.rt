@@ -1,1 +1,2 @@
 // Nothing runs here: this crate is its specs/.
+#![tactic(auto)]

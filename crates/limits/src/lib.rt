@@ -1,4 +1,6 @@
 //! The limits of document 01 as the code has them, each once; `meaning/specs/Limits.antt` has them as definitions, under the same names.
+#![tactic(auto)]
+
 ghost use Rattle.std.specs.Prelude.{◌≡◌};
 ghost use Rattle.meaning.specs.Limits.{spec_bytes, name_bytes, mapped_bytes, spec_list_bytes, item_list_bytes, row_list_bytes, spec_count, item_count, number_groups, largest_number, id_digits, hash_digits, program_bytes, decimal_digits};
 

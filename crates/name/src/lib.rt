@@ -1,4 +1,5 @@
 // The rules of git-check-ref-format with --allow-onelevel, as the manual numbers them: which bytes a name has, and what follows each.
+#![tactic(auto)]
 ghost use Rattle.std.specs.Prelude.{◌≡◌, true, not, ◌+◌, ◌<◌, ◌≤◌, length, get_or, drop};
 ghost use Rattle.meaning.specs.Bytes.{◌and◌};
 ghost use Rattle.meaning.specs.Names.{not_at, name_passes, side_passes};
@@ -129,7 +130,7 @@ fn plain(b: u8) -> bool
     ensures { result ≡ plain b }
 {
     ((b'a' <= b) & (b <= b'z'))
-        | ((b'_a' <= b) & (b <= b'_z'))
+        | ((b'A' <= b) & (b <= b'Z'))
         | ((b'0' <= b) & (b <= b'9'))
         | (b == b'-')
         | (b == b'/')

@@ -1,4 +1,5 @@
 //! What a text in print stands for: measured, or told where it is not as a text is shown, and written into a lent buffer.
+#![tactic(auto)]
 ghost use Rattle.std.specs.Prelude.{◌≡◌, true, ◌<◌, ◌≤◌, length, drop};
 ghost use Rattle.print.specs.Unshown.{text_of, digit_value, escape, escaped, unshown};
 ghost use Rattle.buffer.specs.Splice.{splice};
@@ -26,7 +27,7 @@ fn digit_value(b: u8) -> u8
 {
     match b {
         b'0'..=b'9' => b - b'0',
-        b'_a'..=b'_f' => b - b'_a' + 10,
+        b'A'..=b'F' => b - b'A' + 10,
         _ => 16,
     }
 }

@@ -64,7 +64,7 @@ pub(crate) fn put_entry(out: &mut [u8], i: usize, specs: &[u8], e: Entry) -> usi
         let end = at + e.len;
         return put_record(out, i, e.frame, &specs[at..end]);
     }
-    buffer::put(out, i, b"\x04_h_e_a_d")
+    buffer::put(out, i, b"\x04HEAD")
 }
 
 // The text, written at the start of the buffer; how many bytes it has.

@@ -26,7 +26,7 @@ pub fn capital_digit(n: u8) -> u8
     if n < 10 {
         return b'0' + n;
     }
-    b'_a' - 10 + n
+    b'A' - 10 + n
 }
 
 // How many bytes a byte takes.

@@ -243,7 +243,7 @@ pub numbered-place : {A : Type 0} (l : List A) {n : ℕ × A} → In n (numbered
 numbered-place l h = let r = numbered-nth 0 l h in let k = r.1 in ap (nth l) (omega arith) ∙ r.2
 
 -- a member has a number
-pub in-numbered : {A : Type 0} (i : ℕ) {l : List A} {x : A} → In x l → (j : ℕ) × In {A = ℕ × A} (j, x) (numbered_from i l)
+pub in-numbered : {A : Type 0} {x : A} {l : List A} (i : ℕ) → In x l → (j : ℕ) × In {A = ℕ × A} (j, x) (numbered_from i l)
 in-numbered i here = (i, here)
 in-numbered i (there h) = let r = in-numbered (suc i) h in (r.0, there r.1)
 

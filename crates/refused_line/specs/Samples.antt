@@ -35,7 +35,7 @@ pub said :
     (refused_line 12 9 (bytes "fetch a*:b") ≡ ended (bytes "line 12: one side has a star and the other has none"))
     × (refused_line 3 6 (bytes "fetch a b") ≡ ended (bytes "line 3: the source does not pass the name rules: byte 8 is a space"))
     × (refused_line 3 8 (bytes "fetch a:b^") ≡ ended (bytes "line 3: the destination does not pass the name rules: byte 10 is `^`"))
-    × (refused_line 1 6 (bytes "fetch a" ++ (127 ∷ [])) ≡ ended (bytes "line 1: the source does not pass the name rules: byte 8 is 0x7_f"))
+    × (refused_line 1 6 (bytes "fetch a" ++ (127 ∷ [])) ≡ ended (bytes "line 1: the source does not pass the name rules: byte 8 is 0x7F"))
     × (refused_line 1 6 (bytes "fetch a" ++ (carriage_return ∷ [])) ≡ ended (bytes "line 1: the source does not pass the name rules: byte 8 is a carriage return"))
     × (refused_line 4 102 (bytes "name" ++ (tab ∷ bytes "a")) ≡ ended (bytes "line 4: no `fetch SPEC`, `push SPEC`, `name NAME` or `shown =NAME`: byte 5 is a tab"))
 unfolding everything held_in name_byte later digit_value escape escaped as_it_is byte_after refused_byte source_byte destination_byte spec_byte known line_byte place_of reason_words numeral hexadecimal byte_itself byte_words line_told refused_line

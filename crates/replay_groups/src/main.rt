@@ -1,4 +1,5 @@
 // Replays the recorded answers of gix-refspec to groups, which standard input brings, and says how many of them are ours.
+#![tactic(auto)]
 use replaying::{Kind, replay};
 
 fn main() {

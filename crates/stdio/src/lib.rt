@@ -1,4 +1,5 @@
 //! The standard streams of a program, with failures told: its input read to the end, its output written, and words for people.
+#![tactic(auto)]
 ghost use Rattle.std.specs.Prelude.{◌≡◌, true, length};
 ghost use Rattle.stdio.specs.Streams.{failed, ReadWithin};
 

@@ -91,7 +91,7 @@ pub fn classify(line: &[u8]) -> Line
     if compare::begins(b"shown ", line) {
         return Line::Shown(6);
     }
-    if compare::begins(b"\x_e_f\x_b_b\x_b_f", line) {
+    if compare::begins(b"\xEF\xBB\xBF", line) {
         return Line::Marked;
     }
     Line::Unknown
