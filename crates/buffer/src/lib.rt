@@ -1,5 +1,6 @@
 // Copying into a lent buffer.
 #![tactic(auto)]
+
 ghost use Rattle.std.specs.Prelude.{◌≡◌, [], ◌∷◌, ◌+◌, ◌<◌, ◌≤◌, length};
 ghost use Rattle.meaning.specs.Bytes.{lower_byte, lower};
 ghost use Rattle.buffer.specs.Splice.{splice};

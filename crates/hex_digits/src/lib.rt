@@ -1,5 +1,6 @@
 // Hexadecimal digits, and object ids.
 #![tactic(auto)]
+
 ghost use Rattle.std.specs.Prelude.{◌≡◌};
 ghost use Rattle.meaning.specs.Bytes.{every, hex_digit, lower_hex_digit, object_id};
 

@@ -1,0 +1,12 @@
+-- `hex::all_lower_hex` meets its contract: what is left of the text decides as the whole does.
+use mathlib.Core.Path.{◌≡◌}
+use Prim.Native.Nat.{◌≤◌, ◌-◌}
+use lib.ListN.{length, drop}
+use Rattle.meaning.specs.Bytes.{every, lower_hex_digit}
+use Rattle.hex_digits.proofs.all_lower_hex.Given as goal
+
+abbrev pub invariant-loop-i : goal.invariant-loop-i
+invariant-loop-i l = (l.i ≤ length l.s) × (every lower_hex_digit (drop l.i l.s) ≡ every lower_hex_digit l.s)
+
+abbrev pub decreases-loop-i : goal.decreases-loop-i
+decreases-loop-i l = length l.s - l.i
