@@ -1,5 +1,6 @@
 // Numbers in groups of seven bits: lowest first, the top bit set while more follow, in the shortest form.
 #![tactic(auto)]
+
 ghost use Rattle.std.specs.Prelude.{◌≡◌, ◌+◌, ◌<◌, ◌≤◌, ◌/◌, ◌%◌, length};
 ghost use Rattle.meaning.specs.Number.{number_bytes};
 ghost use Rattle.buffer.specs.Splice.{splice};
