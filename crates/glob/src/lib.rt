@@ -1,5 +1,6 @@
 // What a name has in place of a pattern's star. Port of `matches` of a glob in the crate's match_group/util.rs.
 #![tactic(auto)]
+
 ghost use Rattle.std.specs.Prelude.{◌≡◌, suc, ◌<◌, ◌≤◌, length, take, drop};
 ghost use Rattle.meaning.specs.Bytes.{before};
 ghost use Rattle.meaning.specs.Match.{capture};
