@@ -10,7 +10,7 @@ use refspec::spec::{Instructed, Prefixed};
 
 // A side of a spec: its kind, where it begins and how many bytes it has. In the header its three fields stand in the answers themselves.
 #[repr(C)]
-#[derive(Drop)]
+#[derive(Clone, Copy)]
 pub struct SideAnswer {
     pub kind: u64,
     pub start: u64,
@@ -19,7 +19,7 @@ pub struct SideAnswer {
 
 // A spec: `vasigmon_spec` of the header.
 #[repr(C)]
-#[derive(Drop)]
+#[derive(Clone, Copy)]
 pub struct SpecAnswer {
     pub refusal: u64,
     pub mode: u64,
@@ -29,7 +29,7 @@ pub struct SpecAnswer {
 
 // An instruction: `vasigmon_instruction_t` of the header.
 #[repr(C)]
-#[derive(Drop)]
+#[derive(Clone, Copy)]
 pub struct InstructionAnswer {
     pub refusal: u64,
     pub kind: u64,
@@ -40,7 +40,7 @@ pub struct InstructionAnswer {
 
 // A prefix: `vasigmon_prefix_t` of the header.
 #[repr(C)]
-#[derive(Drop)]
+#[derive(Clone, Copy)]
 pub struct PrefixAnswer {
     pub refusal: u64,
     pub prefix: SideAnswer,

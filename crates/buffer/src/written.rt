@@ -5,7 +5,7 @@ ghost use Rattle.buffer.specs.Answers.{refused_with, short_with, done_with};
 // A refusal's number or 0, the number of the record that it carries, and the bytes written or, beside 17, a length for the buffer. A field
 // without a meaning is 0.
 #[repr(C)]
-#[derive(Drop)]
+#[derive(Clone, Copy)]
 pub struct Written {
     pub refusal: u64,
     pub record: u64,

@@ -13,7 +13,7 @@ use text_program::output::{say_line, say_text};
 const DESTINATION_ROOM: usize = 2 * SPEC_BYTES;
 
 // What was printed so far: whether all of it was written, and whether there was a pair.
-#[derive(Drop)]
+#[derive(Clone, Copy)]
 struct Shown {
     whole: bool,
     some: bool,

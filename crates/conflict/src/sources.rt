@@ -12,7 +12,7 @@ use keys::key::Key;
 use order::run::run_end;
 
 // Of places sorted by source: how many are the first of theirs, and how many bytes the sources take.
-#[derive(Drop)]
+#[derive(Clone, Copy)]
 pub(crate) struct HeadsSize {
     pub count: usize,
     pub size: usize,

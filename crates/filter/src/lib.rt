@@ -15,7 +15,7 @@ use sides::wide;
 
 // A name passes that has from `least` to `most` bytes and, where `worded`, those from `from` on that make the number
 // `word`, or else, where `framed`, as many bytes more than `least` as one of the frames of a partial name adds.
-#[derive(Drop)]
+#[derive(Clone, Copy)]
 pub struct Filter {
     pub least: usize,
     pub most: usize,

@@ -9,7 +9,7 @@ ghost use Rattle.buffer.specs.Splice.{splice};
 ghost use Rattle.frames.specs.Frames.{Framing, frame_at, candidate, adds, frame_adding};
 
 // A frame: its leading text, how many of these bytes count, and how many bytes of `/HEAD` trail.
-#[derive(Drop)]
+#[derive(Clone, Copy)]
 struct Frame([u8; 13], usize, usize);
 
 // How many frames there are.

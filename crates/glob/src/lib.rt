@@ -9,7 +9,7 @@ ghost use Rattle.glob.specs.Captures.{capture_meant, ended_at, captured_at, Capt
 pub mod pieces;
 
 // What a name has between a start and an end: nothing, or `len` of its bytes that begin at `from`.
-#[derive(Drop)]
+#[derive(Clone, Copy)]
 pub enum Captured {
     None,
     Part { from: usize, len: usize },

@@ -19,7 +19,7 @@ use row_fields::RowPlace;
 use row_list::{RowStep, next_row};
 
 // How many bytes the kept rows and the fixes take.
-#[derive(Drop)]
+#[derive(Clone, Copy)]
 pub struct Lengths {
     pub kept: usize,
     pub fixed: usize,

@@ -47,7 +47,7 @@ pub const PROGRAM_BYTES: usize = 65536;
 pub const DECIMAL_DIGITS: usize = 4;
 
 // All of them.
-#[derive(Drop)]
+#[derive(Clone, Copy)]
 pub struct Limits {
     pub spec_bytes: usize,
     pub name_bytes: usize,

@@ -6,13 +6,13 @@ ghost use Rattle.list.specs.Cursor.{placed_step, step_at};
 use number::Number;
 
 // A place in a list at which a record begins.
-#[derive(Drop)]
+#[derive(Clone, Copy)]
 pub struct Cursor {
     pub at: usize,
 }
 
 // What stands at a cursor: a record, as the place and length of its bytes with the cursor moved on; the list's end; or a refusal's number.
-#[derive(Drop)]
+#[derive(Clone, Copy)]
 pub enum Step {
     Record {
         start: usize,

@@ -11,7 +11,7 @@ use limits::{ITEM_COUNT, ITEM_LIST_BYTES, NAME_BYTES};
 
 // A list that was read: a refusal's number or 0, the number of the record that it carries, and how many records were accepted. A field
 // without a meaning is 0.
-#[derive(Drop)]
+#[derive(Clone, Copy)]
 pub struct Checked {
     pub refusal: u64,
     pub record: u64,

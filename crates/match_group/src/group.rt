@@ -17,7 +17,7 @@ use search::scope::{Scope, Turn};
 
 // The hits that are noted: how many of them are of object sources, which stand first, and how many all are; more than there is room for
 // where one was not noted.
-#[derive(Drop)]
+#[derive(Clone, Copy)]
 struct Notes {
     scope: Scope,
     objects: usize,

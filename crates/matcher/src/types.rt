@@ -2,7 +2,7 @@
 use parse::types::Side;
 
 // What a source looks for.
-#[derive(Drop)]
+#[derive(Clone, Copy)]
 pub enum Needle {
     // Nothing: there is no source.
     Absent,
@@ -17,7 +17,7 @@ pub enum Needle {
 }
 
 // How a literal text is led.
-#[derive(Drop)]
+#[derive(Clone, Copy)]
 pub enum Lead {
     // As it is.
     AsIs,
@@ -32,7 +32,7 @@ pub enum Lead {
 }
 
 // A destination.
-#[derive(Drop)]
+#[derive(Clone, Copy)]
 pub enum Target {
     // There is none.
     Absent,
@@ -43,7 +43,7 @@ pub enum Target {
 }
 
 // One spec: its sides as places in the spec list, what the source looks for, and what the destination is.
-#[derive(Drop)]
+#[derive(Clone, Copy)]
 pub struct Matcher {
     pub src: Side,
     pub lhs: Needle,
@@ -52,7 +52,7 @@ pub struct Matcher {
 }
 
 // The places of a pattern with the capture for its star: a part of the spec list, then a part of the name, then a part of the spec list.
-#[derive(Drop)]
+#[derive(Clone, Copy)]
 pub struct Filled {
     pub start: usize,
     pub start_len: usize,
@@ -63,7 +63,7 @@ pub struct Filled {
 }
 
 // A text that a match makes.
-#[derive(Drop)]
+#[derive(Clone, Copy)]
 pub enum RowText {
     // There is none.
     Absent,
@@ -76,7 +76,7 @@ pub enum RowText {
 }
 
 // The ends of a row, or that there is none.
-#[derive(Drop)]
+#[derive(Clone, Copy)]
 pub enum Ends {
     Nothing,
     Row {

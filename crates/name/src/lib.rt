@@ -6,7 +6,7 @@ ghost use Rattle.meaning.specs.Names.{not_at, name_passes, side_passes};
 ghost use Rattle.name.specs.Rules.{name_byte, letter, digit, rest_of_lock, after_dot, after_slash, after_at_sign, stands, standing, plain, fits, fitting, kind_of};
 
 // What a text is by the rules: a name, a pattern with one star, or neither.
-#[derive(Drop)]
+#[derive(Clone, Copy)]
 pub enum NameKind {
     Name,
     Pattern,

@@ -18,7 +18,7 @@ use sides::wide;
 pub const NEGATIVE_NUMBERS: usize = 4;
 
 // What a negative spec looks for, as places in the spec list.
-#[derive(Drop)]
+#[derive(Clone, Copy)]
 pub enum Negative {
     // Nothing: it has no source, or beside it a destination that is a pattern where it is none, or the other way.
     Nothing,

@@ -10,7 +10,7 @@ ghost use Rattle.number.specs.Reading.{found_at, number_at, after_one, after_two
 use limits::NUMBER_GROUPS;
 
 // A number that was read, with the place of what follows it, or that none is well formed there.
-#[derive(Drop)]
+#[derive(Clone, Copy)]
 pub enum Number {
     Is { value: usize, next: usize },
     Malformed,

@@ -13,7 +13,7 @@ use split::split;
 use types::RefSpec;
 
 // A spec's places, or the number of the first question that refuses it.
-#[derive(Drop)]
+#[derive(Clone, Copy)]
 pub enum Parsed {
     Spec(RefSpec),
     Refused(u64),

@@ -6,7 +6,7 @@ ghost use Rattle.parse.specs.Places.{mode_meant, mode_case, part_at, sign_length
 use super::types::{Mode, RefSpec, Side, is_negative};
 
 // The places of a spec, and whether a colon parts its sides.
-#[derive(Drop)]
+#[derive(Clone, Copy)]
 pub(crate) struct Sides {
     pub spec: RefSpec,
     pub colon: bool,

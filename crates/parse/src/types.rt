@@ -4,7 +4,7 @@ ghost use Rattle.meaning.specs.Spec.{is_negative};
 ghost use Rattle.parse.specs.Places.{mode_meant, is_present};
 
 // The way to interpret a refspec.
-#[derive(Drop)]
+#[derive(Clone, Copy)]
 pub enum Mode {
     Normal,
     Force,
@@ -12,7 +12,7 @@ pub enum Mode {
 }
 
 // Where a side of a spec stands: absent, a start and a length in the spec's bytes, or `HEAD`, which the bytes do not spell.
-#[derive(Drop)]
+#[derive(Clone, Copy)]
 pub enum Side {
     Absent,
     Part(usize, usize),
@@ -20,7 +20,7 @@ pub enum Side {
 }
 
 // A refspec as places in its bytes.
-#[derive(Drop)]
+#[derive(Clone, Copy)]
 pub struct RefSpec {
     pub mode: Mode,
     pub src: Side,

@@ -8,14 +8,14 @@ ghost use Rattle.percent.specs.Decode.{measured, is_text, Steps, Decodes};
 use print::shown::is_plain;
 
 // How many bytes a text in print stands for, or the place of its first byte that is not as a text is shown.
-#[derive(Drop)]
+#[derive(Clone, Copy)]
 pub enum Measured {
     Size(usize),
     Fault(usize),
 }
 
 // A byte that is shown, and how many bytes show it; 0 of them where none is shown.
-#[derive(Drop)]
+#[derive(Clone, Copy)]
 struct Step {
     width: usize,
     byte: u8,

@@ -11,7 +11,7 @@ use frames::{FRAMES, is_candidate, put_candidate, put_record, record_size};
 use parse::types::Side;
 
 // A text: a frame's number, and the place and length of the name in it. A number past the last frame's is `HEAD`.
-#[derive(Drop)]
+#[derive(Clone, Copy)]
 pub(crate) struct Entry {
     pub frame: usize,
     pub at: usize,

@@ -4,7 +4,7 @@ ghost use Rattle.recorded.specs.Record.{sized};
 ghost use Rattle.recorded.specs.Field.{field_at, TextFound, front_at};
 
 // Where the next field begins, or that this one differs.
-#[derive(Drop)]
+#[derive(Clone, Copy)]
 pub enum Next {
     At(usize),
     Differs,

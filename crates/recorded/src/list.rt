@@ -10,7 +10,7 @@ use super::field::{Next, text_field, wide};
 use number::Number;
 
 // A prefix that agrees, with the places of the next field and of the list's next record; or one that differs.
-#[derive(Drop)]
+#[derive(Clone, Copy)]
 enum Passed {
     To { next: usize, at: usize },
     Differs,

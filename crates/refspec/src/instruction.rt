@@ -2,7 +2,7 @@
 use parse::types::Side;
 
 // The seven instructions. `allow_non_fast_forward` is set by a `+`.
-#[derive(Drop)]
+#[derive(Clone, Copy)]
 pub enum Instruction {
     // Fetch the source without updating a local reference.
     FetchOnly {

@@ -12,14 +12,14 @@ use parse::types::{Mode, RefSpec, Side, is_negative, is_present};
 use parse::{Parsed, parse};
 
 // The instruction of a spec, or the number of the question that refuses it.
-#[derive(Drop)]
+#[derive(Clone, Copy)]
 pub enum Instructed {
     To(Instruction),
     Refused(u64),
 }
 
 // The prefix of a spec, absent where it has none, or the number of the question that refuses it.
-#[derive(Drop)]
+#[derive(Clone, Copy)]
 pub enum Prefixed {
     Prefix(Side),
     Refused(u64),

@@ -4,7 +4,7 @@ ghost use Rattle.std.specs.Prelude.{◌≡◌, ◌<◌};
 ghost use Rattle.refusal_words.specs.Words.{place_of, phrase_at, reason_words, Spells};
 
 // A phrase: its bytes with zeros after them, and how many of them count.
-#[derive(Drop)]
+#[derive(Clone, Copy)]
 pub struct Words(pub [u8; 60], pub usize);
 
 // The phrases, by their places.

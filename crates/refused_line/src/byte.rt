@@ -12,7 +12,7 @@ use text::last::past_last;
 use text_lists::line::{Line, classify};
 
 // Where the sides of a spec stand: the source from `start` to `end`, the destination from `rest` on.
-#[derive(Drop)]
+#[derive(Clone, Copy)]
 struct Sides {
     start: usize,
     end: usize,

@@ -9,7 +9,7 @@ use libc::{STDIN_FILENO, STDOUT_FILENO};
 const NAMED: u64 = 10;
 
 // What the answers are about.
-#[derive(Drop)]
+#[derive(Clone, Copy)]
 pub enum Kind {
     Specs,
     Groups,
@@ -17,7 +17,7 @@ pub enum Kind {
 }
 
 // What one turn came to: the list is at its end; it ends within a record, or has one that is too long; a record was compared.
-#[derive(Drop)]
+#[derive(Clone, Copy)]
 enum Turn {
     End,
     Broken,
@@ -26,7 +26,7 @@ enum Turn {
 }
 
 // How many records were read, how many of them differ, and whether there may be more.
-#[derive(Drop)]
+#[derive(Clone, Copy)]
 struct Tally {
     read: u64,
     differ: u64,

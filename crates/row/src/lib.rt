@@ -14,7 +14,7 @@ use matcher::types::RowText;
 use row_text::{put_row_text, row_text_size};
 
 // The numbers that a row begins with: its item number plus 1 or 0, its spec number and its source kind.
-#[derive(Drop)]
+#[derive(Clone, Copy)]
 pub struct Numbers {
     pub item: usize,
     pub spec: usize,

@@ -13,7 +13,7 @@ use number::Number;
 use parse::types::Side;
 
 // A row: its numbers, its source as a place in the list, and its destination, which may be absent.
-#[derive(Drop)]
+#[derive(Clone, Copy)]
 pub struct RowPlace {
     pub item: usize,
     pub spec: usize,
@@ -24,21 +24,21 @@ pub struct RowPlace {
 }
 
 // What begins at a place: a row, with the place after its destination, or none that is well formed.
-#[derive(Drop)]
+#[derive(Clone, Copy)]
 pub enum Front {
     Row { row: RowPlace, next: usize },
     Malformed,
 }
 
 // A text of a row list.
-#[derive(Drop)]
+#[derive(Clone, Copy)]
 pub struct Stretch {
     pub at: usize,
     pub len: usize,
 }
 
 // A destination that was read: absent, with the place after its number; so many bytes that begin at a place; or none that is well formed.
-#[derive(Drop)]
+#[derive(Clone, Copy)]
 enum Destination {
     Absent { next: usize },
     Present { start: usize, len: usize },

@@ -16,7 +16,7 @@ use list::items::Checked;
 use row_fields::{Front, RowPlace, read_front};
 
 // What stands at a cursor: a row with the cursor moved on, the list's end, or a refusal's number.
-#[derive(Drop)]
+#[derive(Clone, Copy)]
 pub enum RowStep {
     Row { row: RowPlace, next: Cursor },
     End,

@@ -25,7 +25,7 @@ pub(crate) const HIT_STRIDE: usize = 2 * ITEM_COUNT;
 pub const HIT_ROOM: usize = SPEC_COUNT + ITEM_COUNT;
 
 // How many bytes rows take, and how many hits are noted; more than there is room for where one was not.
-#[derive(Drop)]
+#[derive(Clone, Copy)]
 pub struct Found {
     pub size: usize,
     pub hits: usize,

@@ -1,7 +1,7 @@
 // What a listing goes over, handed on by value.
 
 // A listing, forward or in reverse: how many specs of a table it goes over, how many names of an item list, and how many negatives.
-#[derive(Drop)]
+#[derive(Clone, Copy)]
 pub struct Scope {
     pub back: bool,
     pub specs: usize,
@@ -10,7 +10,7 @@ pub struct Scope {
 }
 
 // The turn of one spec, and the place after what came before: in a table of hits, or in a buffer.
-#[derive(Drop)]
+#[derive(Clone, Copy)]
 pub struct Turn {
     pub scope: Scope,
     pub spec: usize,

@@ -21,7 +21,7 @@ use record::{SpecRecord, record_of};
 
 // A spec list that was read: a refusal's number or 0, the number of the record that it carries, how many specs were accepted, and these,
 // as places in the list. A number without a meaning is 0.
-#[derive(Drop)]
+#[derive(Clone, Copy)]
 pub struct Group {
     pub refusal: u64,
     pub record: u64,
@@ -30,7 +30,7 @@ pub struct Group {
 }
 
 // What stands at a cursor: a spec, as places in the list, with the cursor moved on; the list's end; or a refusal's number.
-#[derive(Drop)]
+#[derive(Clone, Copy)]
 pub(crate) enum SpecStep {
     Spec { spec: RefSpec, next: Cursor },
     End,

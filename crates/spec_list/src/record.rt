@@ -8,7 +8,7 @@ use parse::types::{Mode, RefSpec};
 use sides::{side_at, side_from, side_kind, side_len, wide};
 
 // A spec record: which each side is, where it begins in the list, and how many bytes it has there.
-#[derive(Drop)]
+#[derive(Clone, Copy)]
 pub struct SpecRecord {
     pub mode: Mode,
     pub src_kind: u16,

@@ -119,7 +119,7 @@ fn show_prefix(whole: bool, op: u64, spec: &[u8]) -> bool {
 }
 
 // Where the next text of a prefix list begins, and whether all so far was written.
-#[derive(Drop)]
+#[derive(Clone, Copy)]
 struct Shown {
     next: usize,
     whole: bool,

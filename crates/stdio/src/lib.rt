@@ -10,7 +10,7 @@ use limits::PROGRAM_BYTES;
 pub const INPUT_ROOM: usize = PROGRAM_BYTES + 1;
 
 // How many bytes were read, up to the end of the input or of the buffer, or that a read failed.
-#[derive(Drop)]
+#[derive(Clone, Copy)]
 pub enum Input {
     Read(usize),
     Failed,

@@ -32,7 +32,7 @@ pub const UNPRINTED: u64 = 106;
 
 // What the lines gave: the number of the first line that is refused, counting from 1, the reason, and where its text starts and ends, or 0
 // for each; and how many bytes the spec list and the item list have.
-#[derive(Drop)]
+#[derive(Clone, Copy)]
 pub struct Gathered {
     pub line: usize,
     pub reason: u64,
@@ -44,7 +44,7 @@ pub struct Gathered {
 
 // The two lists so far: the reason to refuse the last line, or 0; how many specs there are, and how many bytes their list has; the same
 // of the names.
-#[derive(Drop)]
+#[derive(Clone, Copy)]
 struct Lists {
     reason: u64,
     specs: usize,

@@ -5,7 +5,7 @@ ghost use Rattle.text_lists.specs.Line.{LineAt, blank_byte, TellsLine};
 
 // What a line holds: a spec or a name, which is the rest of the line from a place on, or nothing; a byte order mark stands before anything
 // else.
-#[derive(Drop)]
+#[derive(Clone, Copy)]
 pub enum Line {
     Nothing,
     Fetch(usize),
@@ -17,7 +17,7 @@ pub enum Line {
 }
 
 // Where the text of a line ends, and where the next line begins.
-#[derive(Drop)]
+#[derive(Clone, Copy)]
 pub struct Extent {
     pub end: usize,
     pub next: usize,

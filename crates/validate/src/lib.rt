@@ -19,7 +19,7 @@ use spec_list::check_specs;
 // many bytes it holds, or beside 17 the length for the short buffer; how many the fix buffer holds; and beside 17 the short buffer, 1 the
 // first or 2 that for fixes. A field without a meaning is 0.
 #[repr(C)]
-#[derive(Drop)]
+#[derive(Clone, Copy)]
 pub struct Validation {
     pub refusal: u64,
     pub record: u64,

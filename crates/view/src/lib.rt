@@ -14,7 +14,7 @@ use parse::types::{RefSpec, Side};
 // A part of a lent list in numbers: a refusal's or 0, the record that it carries, the list (0 the items, 1 the specs), where the part
 // begins in it and how many bytes it has. A field without a meaning is 0.
 #[repr(C)]
-#[derive(Drop)]
+#[derive(Clone, Copy)]
 pub struct Part {
     pub refusal: u64,
     pub record: u64,
@@ -24,7 +24,7 @@ pub struct Part {
 }
 
 // Where the bytes of a record stand in its list.
-#[derive(Drop)]
+#[derive(Clone, Copy)]
 struct Extent {
     start: usize,
     len: usize,

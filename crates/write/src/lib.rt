@@ -20,7 +20,7 @@ use refspec::spec::instruction_of;
 use spec_text::{put_side, side_size};
 
 // The pieces of a canonical text: a sign or 0 for none, a source, whether a colon follows, a destination.
-#[derive(Drop)]
+#[derive(Clone, Copy)]
 struct Pieces {
     sign: u8,
     src: Side,
