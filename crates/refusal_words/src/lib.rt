@@ -1,5 +1,6 @@
 // Why a line of text is refused, in words.
 #![tactic(auto)]
+
 ghost use Rattle.std.specs.Prelude.{◌≡◌, ◌<◌};
 ghost use Rattle.refusal_words.specs.Words.{place_of, phrase_at, reason_words, Spells};
 
