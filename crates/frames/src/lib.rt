@@ -1,5 +1,6 @@
 // The six frames of a partial name, and the candidates that they make. Port of `expand_partial_name` in the crate's spec.rs.
 #![tactic(auto)]
+
 ghost use Rattle.std.specs.Prelude.{◌≡◌, ◌+◌, ◌<◌, ◌≤◌, eqb, length, drop};
 ghost use Rattle.meaning.specs.Bytes.{◌and◌, any, same, begins};
 ghost use Rattle.meaning.specs.Limits.{spec_list_bytes};
