@@ -1,5 +1,6 @@
 // The rules of git-check-ref-format with --allow-onelevel, as the manual numbers them: which bytes a name has, and what follows each.
 #![tactic(auto)]
+
 ghost use Rattle.std.specs.Prelude.{◌≡◌, true, not, ◌+◌, ◌<◌, ◌≤◌, length, get_or, drop};
 ghost use Rattle.meaning.specs.Bytes.{◌and◌};
 ghost use Rattle.meaning.specs.Names.{not_at, name_passes, side_passes};
