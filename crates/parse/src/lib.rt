@@ -1,5 +1,6 @@
 // Reading one spec: its sign, its sides as places, and document 01's questions in their order. Port of the crate's parse.rs.
 #![tactic(auto)]
+
 ghost use Rattle.std.specs.Prelude.{◌≡◌};
 ghost use Rattle.meaning.specs.Spec.{read_spec};
 ghost use Rattle.parse.specs.Places.{parsed, parsed_meant};
