@@ -1,6 +1,7 @@
 // A side of a spec as three numbers of 16 bits, so that a table of specs is small: which side it is, where it begins, and how many bytes it
 // has there.
 #![tactic(auto)]
+
 ghost use Rattle.std.specs.Prelude.{◌≡◌, ◌≤◌};
 ghost use Rattle.meaning.specs.Limits.{spec_list_bytes};
 ghost use Rattle.parse.specs.Places.{Within};
