@@ -1,5 +1,6 @@
 // The matcher of a spec: what its source looks for, and what its destination is. Port of the crate's match_group/util.rs.
 #![tactic(auto)]
+
 ghost use Rattle.std.specs.Prelude.{◌≡◌, length};
 ghost use Rattle.parse.specs.Places.{SidesWithin, spec_meant};
 ghost use Rattle.matcher.specs.Matching.{Matches};
