@@ -1,5 +1,6 @@
 // The text of a side: how many bytes it has, and writing it.
 #![tactic(auto)]
+
 ghost use Rattle.std.specs.Prelude.{◌≡◌, ◌+◌, ◌≤◌, length};
 ghost use Rattle.meaning.specs.Limits.{spec_bytes};
 ghost use Rattle.buffer.specs.Splice.{splice};
