@@ -1,5 +1,6 @@
 // Reading a spec list: the questions in order, each record in turn, into a table of records by value.
 #![tactic(auto)]
+
 ghost use Rattle.std.specs.Prelude.{◌≡◌, ◌+◌, ◌≤◌, length};
 ghost use Rattle.meaning.specs.Limits.{spec_list_bytes, spec_count};
 ghost use Rattle.meaning.specs.Lists.{spec_record, read_specs};

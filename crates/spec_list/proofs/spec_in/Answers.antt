@@ -1,0 +1,14 @@
+-- `spec_list::spec_in` meets its contract: what reading the record's bytes answers, as places in the list.
+use mathlib.Core.Path.{refl}
+use Rattle.spec_list.proofs.SpecSteps.{spec-turned, spec-sides, spec-means, spec-within}
+use borrow.Author.Rules.{rules}
+use Rattle.spec_list.proofs.spec_in.Goals as goal
+
+pub shifted-spec-requires : goal.shifted-spec-requires
+shifted-spec-requires c = (search spec-sides, search rules)
+
+pub returns-in-Spec : goal.returns-in-Spec
+returns-in-Spec c = (refl, search spec-means, search spec-within)
+
+pub returns-in-Refused : goal.returns-in-Refused
+returns-in-Refused c = search spec-turned
