@@ -1,5 +1,6 @@
 // The negative specs of a group as flat numbers, and whether one of them matches a name. Port of the negatives in the crate's match_group/mod.rs.
 #![tactic(auto)]
+
 ghost use Rattle.std.specs.Prelude.{◌≡◌, cond, [], ◌∷◌, ◌++◌, ℕ, ◌+◌, ◌*◌, ◌<◌, ◌≤◌, length};
 ghost use Rattle.meaning.specs.Bytes.{same, present};
 ghost use Rattle.meaning.specs.Limits.{spec_list_bytes};
