@@ -1,5 +1,6 @@
 //! What stands at a place of a row list: the fields of the row that begins there, and the quick way to its destination.
 #![tactic(auto)]
+
 ghost use Rattle.std.specs.Prelude.{◌≡◌, ◌+◌, ◌-◌, ◌≤◌, length, drop};
 ghost use Rattle.meaning.specs.Limits.{largest_number};
 ghost use Rattle.meaning.specs.Number.{number_bytes, read_number, read_text};

@@ -1,0 +1,12 @@
+-- `row_fields::after_item` meets its contract: the spec number is read, or is malformed.
+use Rattle.row_fields.proofs.Fields.{small-number, spec-next, spec-stop}
+use Rattle.row_fields.proofs.after_item.Goals as goal
+
+pub after_spec-requires : goal.after_spec-requires
+after_spec-requires c = search small-number
+
+pub returns-in-Is : goal.returns-in-Is
+returns-in-Is c = search spec-next
+
+pub returns-in-Malformed : goal.returns-in-Malformed
+returns-in-Malformed c = search spec-stop

@@ -1,0 +1,9 @@
+-- `row_fields::past_number` meets its contract: what is left after a number is the rest of the list, and nothing where there is none.
+use Rattle.row_fields.proofs.Skips.{number_passed, number-ends}
+use Rattle.row_fields.proofs.past_number.Goals as goal
+
+pub returns-in-Is : goal.returns-in-Is
+returns-in-Is c = search number_passed
+
+pub returns-in-Malformed : goal.returns-in-Malformed
+returns-in-Malformed c = search number-ends

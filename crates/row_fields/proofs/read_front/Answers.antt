@@ -1,0 +1,9 @@
+-- `row_fields::read_front` meets its contract: the item field is read, or is malformed; what is told of the step says which places they are.
+use Rattle.row_fields.proofs.Fields.{item-next, item-stop, front-placed}
+use Rattle.row_fields.proofs.read_front.Goals as goal
+
+pub returns-in-Is : goal.returns-in-Is
+returns-in-Is c = (search (front-placed, item-next), search item-next)
+
+pub returns-in-Malformed : goal.returns-in-Malformed
+returns-in-Malformed c = (search (front-placed, item-stop), search item-stop)
