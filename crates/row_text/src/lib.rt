@@ -1,5 +1,6 @@
 // The texts that a match makes: how many bytes they have, and writing them. Port of `to_bstr_replace` in the crate's match_group/util.rs.
 #![tactic(auto)]
+
 ghost use Rattle.std.specs.Prelude.{◌≡◌, ◌++◌, ◌+◌, ◌≤◌, length};
 ghost use Rattle.meaning.specs.Bytes.{or_empty, lower};
 ghost use Rattle.meaning.specs.Limits.{spec_list_bytes, name_bytes};
