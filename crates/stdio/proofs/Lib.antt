@@ -1,2 +1,2 @@
--- `Counting`: what is read ends within the buffer.
-pub mod Counting
+-- `Reading`: what is read into a part of a buffer stands after what was read before.
+pub mod Reading

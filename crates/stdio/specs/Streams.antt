@@ -1,12 +1,12 @@
 -- What reading answers.
-use Rattle.std.specs.Prelude.{ℕ, ◌≤◌, Bool, true, false, ℤ, pos, negsuc}
+use Rattle.std.specs.Prelude.{ℕ, ◌≤◌}
 use Rattle.stdio.specs.declared.Input.{Input}
 use Rattle.stdio.specs.declared.Input.TheVariants.{Read, Failed}
 
--- a negative answer of `read` is a failure
-abbrev pub failed : ℤ → Bool
-failed (pos k) = false
-failed (negsuc k) = true
+-- what holds of the count of bytes that were read
+abbrev pub IfRead : Input → (ℕ → Type 0) → Type 0
+IfRead (Read n) P = P n
+IfRead Failed P = Unit {0}
 
 -- no more bytes are read than the buffer has
 abbrev pub ReadWithin : ℕ → Input → Type 0

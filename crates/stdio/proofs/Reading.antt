@@ -1,0 +1,24 @@
+-- What is read into a part of a buffer stands after what was read before, and within the buffer. Assumes nothing.
+use Rattle.std.proofs.Common.{◌≡◌, ℕ, ◌+◌, ◌-◌, ◌≤◌, List, ◌++◌, arith, length, take, slice_range, sym, ap, ◌∙◌, drop_at, length-take-le}
+use lib.Seq.{take-add, take-append-le}
+use borrow.Rule.Slice.PartMut.{put_mid, post_of}
+use Rattle.stdio.specs.declared.Input.{Input}
+use Rattle.stdio.specs.declared.Input.TheVariants.{Read}
+use Rattle.stdio.specs.Streams.{ReadWithin}
+
+-- the front stayed, so that front and what was put after it are a longer front
+pub take_split : (a b : ℕ) (old new : List ℕ) → a ≤ b → take a new ≡ take a old → take a old ++ slice_range new a b ≡ take b new
+take_split a b old new h front =
+    let same : a + (b - a) ≡ b = omega arith in
+    ap (λ l. l ++ slice_range new a b) (sym front) ∙ sym (take-add a (b - a) new) ∙ ap (λ n. take n new) same
+
+-- the first n bytes that were put from a place on stand there
+pub slice_range-put_mid : (a k n : ℕ) (xs ys : List ℕ) → a ≤ length xs → n ≤ length ys → slice_range (put_mid a k xs ys) a (a + n) ≡ take n ys
+slice_range-put_mid a k n xs ys within fits =
+    let same : (a + n) - a ≡ n = omega arith in
+    let after = post_of a k xs in
+    ap (take ((a + n) - a)) (drop_at (take a xs) (ys ++ after) a (length-take-le a xs within)) ∙ ap (λ m. take m (ys ++ after)) same ∙ take-append-le n ys after fits
+
+-- what was read stands within the buffer
+pub read-within : (len : ℕ) (r : Input) (n : ℕ) → ReadWithin len r → r ≡ Read n → n ≤ len
+read-within len r n h e = rw e at h
