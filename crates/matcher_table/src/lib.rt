@@ -1,5 +1,6 @@
 // The matchers of a group as flat numbers, ten for each, so that they can be lent without copying.
 #![tactic(auto)]
+
 ghost use Rattle.std.specs.Prelude.{◌≡◌, [], ◌∷◌, ◌+◌, ◌*◌, ◌≤◌, length};
 ghost use Rattle.meaning.specs.Limits.{spec_list_bytes};
 ghost use Rattle.buffer.specs.Splice.{splice};
