@@ -1,5 +1,6 @@
 // What one spec makes of one name: the ends of the row, forward, in reverse and of an object id. Port of the crate's match_group/util.rs.
 #![tactic(auto)]
+
 ghost use Rattle.std.specs.Prelude.{◌≡◌, [], ◌≤◌, length};
 ghost use Rattle.meaning.specs.Limits.{name_bytes};
 ghost use Rattle.meaning.specs.Spec.{Spec};
