@@ -1,6 +1,7 @@
 // A row of a listing with its texts as places: how many bytes it has, and writing it. Port of `Mapping` in the crate's
 // match_group/types.rs.
 #![tactic(auto)]
+
 ghost use Rattle.std.specs.Prelude.{◌≡◌, ◌+◌, ◌≤◌, length};
 ghost use Rattle.meaning.specs.Bytes.{or_empty};
 ghost use Rattle.meaning.specs.Limits.{item_count, spec_count};
