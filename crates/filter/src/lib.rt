@@ -1,5 +1,6 @@
 // A quick look at names before a spec is asked: how many bytes they have, and eight of them. What is stopped has no row.
 #![tactic(auto)]
+
 ghost use Rattle.std.specs.Prelude.{◌≡◌, true, false, ℕ, ◌+◌, ◌*◌, ◌≤◌, ◌<◌, length, get_or};
 ghost use Rattle.meaning.specs.Limits.{spec_list_bytes};
 ghost use Rattle.parse.specs.Places.{part_at, Within};
