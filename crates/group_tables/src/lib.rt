@@ -1,6 +1,7 @@
 // The specs of a group noted once for all names: their matchers as flat numbers, and the negatives apart. Port of how `match_lhs` and
 // `match_rhs` make the matchers in the crate's match_group/mod.rs.
 #![tactic(auto)]
+
 ghost use Rattle.std.specs.Prelude.{◌+◌, ◌*◌, ◌≤◌, length, take};
 ghost use Rattle.meaning.specs.Limits.{spec_list_bytes, spec_count};
 ghost use Rattle.parse.specs.Places.{spec_meant, SidesWithin};
