@@ -1,6 +1,7 @@
 // One spec on one name: how many bytes its row takes, unless a negative removes it, and writing a row that is known to stand. Port of what
 // `match_lhs` and `match_rhs` do with one spec and one item in the crate's match_group/mod.rs.
 #![tactic(auto)]
+
 ghost use Rattle.std.specs.Prelude.{◌≡◌, [], ◌+◌, ◌≤◌, ◌<◌, length};
 ghost use Rattle.meaning.specs.Bytes.{or_empty};
 ghost use Rattle.meaning.specs.Limits.{item_count, spec_count, name_bytes, mapped_bytes};
