@@ -1,5 +1,6 @@
 // The canonical text of a spec. Port of the crate's write.rs.
 #![tactic(auto)]
+
 ghost use Rattle.std.specs.Prelude.{◌≡◌, [], ◌∷◌, ◌++◌, ◌+◌, ◌≤◌, length};
 ghost use Rattle.std.proofs.Math.Option.{some};
 ghost use Rattle.buffer.specs.Splice.{splice};
