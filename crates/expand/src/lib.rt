@@ -1,5 +1,6 @@
 // The prefixes that a spec yields, written as a prefix list. Port of `expand_prefixes` in the crate's spec.rs.
 #![tactic(auto)]
+
 ghost use Rattle.std.specs.Prelude.{◌≡◌, [], ◌∷◌, ◌+◌, ◌≤◌, length};
 ghost use Rattle.std.proofs.Math.Option.{some};
 ghost use Rattle.meaning.specs.Limits.{spec_bytes};
