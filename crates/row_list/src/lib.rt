@@ -1,5 +1,6 @@
 // Reading a row list: a row at a cursor, and the questions in order, each row in turn.
 #![tactic(auto)]
+
 ghost use Rattle.std.specs.Prelude.{◌≡◌, cond, ◌+◌, ◌≤◌, length};
 ghost use Rattle.meaning.specs.Limits.{row_list_bytes};
 ghost use Rattle.meaning.specs.Rows.{object_digits, row_passes, row_record, read_rows};
