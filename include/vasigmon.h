@@ -33,8 +33,8 @@
  * Stack. `enum vasigmon_stack` states how much each entry needs. The main thread
  * and a thread of the usual size, 2 MB or more, have enough for every call.
  *
- * Link with libvasigmon.a, which `rt staticlib vasigmon` writes to
- * target/staticlib/. It needs nothing beyond the C library.
+ * Link with libvasigmon.a, which `tools/archive` writes to
+ * crates/vasigmon/out/. It needs nothing beyond the C library.
  */
 #ifndef VASIGMON_H
 #define VASIGMON_H

@@ -1,19 +1,19 @@
 //! Finds the archive: in the folder that VASIGMON_LIB_DIR names, else where
-//! `rt staticlib vasigmon` writes it.
+//! `tools/archive` writes it.
 
 use std::{env, path::PathBuf};
 
 fn main() {
     let folder = match env::var_os("VASIGMON_LIB_DIR") {
         Some(folder) => PathBuf::from(folder),
-        None => PathBuf::from(env!("CARGO_MANIFEST_DIR")).join("../../target/staticlib"),
+        None => PathBuf::from(env!("CARGO_MANIFEST_DIR")).join("../../crates/vasigmon/out"),
     };
     let archive = folder.join("libvasigmon.a");
     println!("cargo::rerun-if-env-changed=VASIGMON_LIB_DIR");
     println!("cargo::rerun-if-changed={}", archive.display());
     if !archive.is_file() {
         println!(
-            "cargo::error=there is no {}: run `rt staticlib vasigmon`, or set VASIGMON_LIB_DIR",
+            "cargo::error=there is no {}: run `tools/archive`, or set VASIGMON_LIB_DIR",
             archive.display()
         );
         return;

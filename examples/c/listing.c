@@ -1,7 +1,7 @@
 /* Prints what specs fetch and where it goes, a row to a line. From the repository's top:
  *
- *     rt staticlib vasigmon
- *     gcc -std=c99 -Iinclude examples/c/listing.c target/staticlib/libvasigmon.a -o target/listing
+ *     tools/archive
+ *     gcc -std=c99 -Iinclude examples/c/listing.c crates/vasigmon/out/libvasigmon.a -o target/listing
  *     target/listing
  *
  * listing.out is what it prints. */

@@ -1,7 +1,7 @@
 //! Git's refspecs, read, mapped and validated by code that is proved.
 //!
-//! A safe wrapper over the archive `libvasigmon.a`, which `rt staticlib vasigmon` writes.
-//! The build takes it from the repository's `target/staticlib`, or from the folder that
+//! A safe wrapper over the archive `libvasigmon.a`, which `tools/archive` writes.
+//! The build takes it from the repository's `crates/vasigmon/out`, or from the folder that
 //! `VASIGMON_LIB_DIR` names.
 //!
 //! - [`parse`] reads a spec, a byte string that names a source and a destination of
