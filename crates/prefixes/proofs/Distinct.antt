@@ -85,6 +85,7 @@ all_old seen (t ∷ l) u h = all_old (add_new seen t) l u (new-old seen t u h)
 
 -- so is each text
 all_there : (seen l : List Text) (u : Text) → In u l → In u (add_all seen l)
+all_there seen [] u h = elim h [ ]
 all_there seen (t ∷ l) u here = all_old (add_new seen u) l u (new-there seen u)
 all_there seen (t ∷ l) u (there h) = all_there (add_new seen t) l u h
 

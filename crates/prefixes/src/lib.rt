@@ -1,5 +1,6 @@
 // The prefix list of a group of specs: each prefix that some spec yields, once, in first-seen order.
 #![tactic(auto)]
+
 ghost use Rattle.std.specs.Prelude.{[], ◌∷◌, ◌+◌, ◌*◌, ◌≤◌, ◌<◌, length, take};
 ghost use Rattle.std.proofs.Math.Option.{some};
 ghost use Rattle.meaning.specs.Limits.{spec_list_bytes, spec_count};
