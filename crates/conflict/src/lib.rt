@@ -1,6 +1,7 @@
 //! The conflict of a run, the rows of one destination, if two of them have different sources: measured and written. Port of
 //! `Issue::Conflict` and of how it is found in the crate's match_group/validate.rs.
 #![tactic(auto)]
+
 ghost use Rattle.std.specs.Prelude.{◌≡◌, ◌+◌, ◌*◌, ◌≤◌, ◌<◌, length};
 ghost use Rattle.buffer.specs.Splice.{splice};
 ghost use Rattle.meaning.specs.Limits.{row_list_bytes};

@@ -1,0 +1,7 @@
+-- `conflict::run_size` meets its contract: a run of one is no conflict.
+use Rattle.conflict.proofs.Shares.{short-size}
+use borrow.Author.Rules.{rules}
+use Rattle.conflict.proofs.run_size.Goals as goal
+
+pub returns-then-run-lt2 : goal.returns-then-run-lt2
+returns-then-run-lt2 c = (search short-size, search rules, search rules)
