@@ -1,5 +1,6 @@
 //! What a text in print stands for: measured, or told where it is not as a text is shown, and written into a lent buffer.
 #![tactic(auto)]
+
 ghost use Rattle.std.specs.Prelude.{◌≡◌, true, ◌<◌, ◌≤◌, length, drop};
 ghost use Rattle.print.specs.Unshown.{text_of, digit_value, escape, escaped, unshown};
 ghost use Rattle.buffer.specs.Splice.{splice};
