@@ -1,5 +1,6 @@
 // Whether two fetch specs can ever collide, so that one destination is written to under both, and on which. Document 02, W1.
 #![tactic(auto)]
+
 ghost use Rattle.std.specs.Prelude.{[], ◌∷◌, suc, ◌<◌, ◌≤◌, length, take, drop};
 ghost use Rattle.std.proofs.Math.Option.{some};
 ghost use Rattle.meaning.specs.Limits.{spec_bytes, spec_list_bytes};

@@ -1,0 +1,6 @@
+-- `collide::literal::pairs_same` meets its contract: the pair with the shorter first piece is compared with the other.
+use Rattle.collide.proofs.Pieces.{pairs-swap}
+use Rattle.collide.proofs.literal.pairs_same.Goals as goal
+
+pub returns : goal.returns
+returns c = search pairs-swap
