@@ -1,6 +1,6 @@
 /* Prints what specs fetch and where it goes, a row to a line. From the repository's top:
  *
- *     tools/archive
+ *     tools/archive && mkdir -p target
  *     gcc -std=c99 -Iinclude examples/c/listing.c crates/vasigmon/out/libvasigmon.a -o target/listing
  *     target/listing
  *
