@@ -1,5 +1,6 @@
 //! The lists that the lines of a text give: the specs of its fetch lines as a spec list, its names as an item list.
 #![tactic(auto)]
+
 ghost use Rattle.std.specs.Prelude.{◌≡◌, ◌+◌, ◌≤◌, length, take};
 ghost use Rattle.meaning.specs.Limits.{spec_list_bytes, program_bytes, item_list_bytes};
 ghost use Rattle.meaning.specs.Number.{text_bytes};

@@ -1,0 +1,13 @@
+-- `text_lists::add_shown` meets its contract: the name that was decoded is added as a name is.
+use Rattle.text_lists.proofs.Growth.{shown-room, shown-added, shown-refused}
+use borrow.Author.Rules.{rules}
+use Rattle.text_lists.proofs.add_shown.Goals as goal
+
+pub add_first-requires : goal.add_first-requires
+add_first-requires c = (search shown-room, search rules, search rules)
+
+pub returns-in-Size : goal.returns-in-Size
+returns-in-Size c = search shown-added
+
+pub returns-in-Fault : goal.returns-in-Fault
+returns-in-Fault c = search shown-refused
