@@ -1,5 +1,6 @@
 // A recorded answer to one spec, held to ours, field by field. specs/Record.antt has the record's form.
 #![tactic(auto)]
+
 ghost use Rattle.std.specs.Prelude.{◌≡◌, true, ◌↔◌, ◌≤◌, length};
 ghost use Rattle.recorded.specs.Record.{sized_room, IsRecord};
 
