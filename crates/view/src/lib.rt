@@ -1,5 +1,6 @@
 //! The source view: the bytes that a forward row's source has, as a part of the item list or of the spec list.
 #![tactic(auto)]
+
 ghost use Rattle.std.specs.Prelude.{◌≡◌, ◌+◌, ◌≤◌, length, take, drop};
 ghost use Rattle.meaning.specs.Bytes.{object_id};
 ghost use Rattle.meaning.specs.Number.{read_text};

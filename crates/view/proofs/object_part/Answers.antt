@@ -1,0 +1,13 @@
+-- `view::object_part` meets its contract: the spec is read again where it stands, and its source has the digits.
+use Rattle.view.proofs.Objects.{object-within, object-read, object-refused}
+use borrow.Author.Rules.{rules}
+use Rattle.view.proofs.object_part.Goals as goal
+
+pub read_digits-requires : goal.read_digits-requires
+read_digits-requires c = (search rules, search object-within)
+
+pub returns-in-Spec : goal.returns-in-Spec
+returns-in-Spec c = search object-read
+
+pub returns-in-Refused : goal.returns-in-Refused
+returns-in-Refused c = search object-refused
