@@ -1,6 +1,7 @@
 //! The conflicts of a row list that was read: destinations on which two rows put different sources. Measured, then written. Port of the
 //! crate's match_group/validate.rs, whose map in order becomes an index of places, sorted by destination.
 #![tactic(auto)]
+
 ghost use Rattle.std.specs.Prelude.{◌≡◌, length};
 ghost use Rattle.row_list.specs.Lists.{rows_in, RowsRead};
 ghost use Rattle.conflicts.specs.ConflictBytes.{conflicts_bytes, put_if_room};
