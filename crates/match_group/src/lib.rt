@@ -1,5 +1,6 @@
 // The forward and the reverse listing of items under specs, as row lists. Port of the crate's match_group/mod.rs.
 #![tactic(auto)]
+
 ghost use Rattle.std.specs.Prelude.{◌≡◌, ◌*◌, ◌≤◌, length, take};
 ghost use Rattle.meaning.specs.Buffers.{MeetsOne};
 ghost use Rattle.meaning.specs.Entries.{match_lhs, match_rhs};
