@@ -1,6 +1,7 @@
 // The rows that are kept and the fixes of those that go out: measured, and written. Port of `Fix` and of the rows that `validated` retains
 // in the crate's match_group/validate.rs.
 #![tactic(auto)]
+
 ghost use Rattle.std.specs.Prelude.{◌≡◌, ◌+◌, ◌≤◌, length};
 ghost use Rattle.meaning.specs.Bytes.{keep, each, if_given};
 ghost use Rattle.meaning.specs.Limits.{row_list_bytes, largest_number};

@@ -1,0 +1,12 @@
+-- What is measured and the rows that are left make the whole, of the kept rows and of the fixes. Assumes nothing.
+use Prim.Native.Nat.{◌-◌}
+use lib.ListN.{length}
+use Rattle.kept_rows.specs.Rows.{kept_bytes, row_fix}
+use Rattle.kept_rows.proofs.Walks.{Counted}
+use Rattle.kept_rows.proofs.measure.Given as goal
+
+abbrev pub invariant-loop-row : goal.invariant-loop-row
+invariant-loop-row l = Counted l.specs l.rows kept_bytes l.c.at l.kept × Counted l.specs l.rows row_fix l.c.at l.fixed
+
+abbrev pub decreases-loop-row : goal.decreases-loop-row
+decreases-loop-row l = length l.rows - l.c.at
