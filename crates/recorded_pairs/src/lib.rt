@@ -1,5 +1,6 @@
 // A recorded report on two specs, held to ours, field by field. specs/PairRecord.antt has the record's form.
 #![tactic(auto)]
+
 ghost use Rattle.std.specs.Prelude.{◌≡◌, true, [], ◌∷◌, ◌↔◌, ◌≤◌, length, drop};
 ghost use Rattle.meaning.specs.Bytes.{same};
 ghost use Rattle.meaning.specs.Collide.{collide as Meaning·collide};
