@@ -1,5 +1,6 @@
 // The validation of a row list: its conflicts, or its kept rows and its fixes. Port of the crate's match_group/validate.rs.
 #![tactic(auto)]
+
 ghost use Rattle.std.specs.Prelude.{◌≡◌, [], ◌≤◌, length};
 ghost use Rattle.meaning.specs.Bytes.{keep, each};
 ghost use Rattle.meaning.specs.Rows.{row_list_of};
