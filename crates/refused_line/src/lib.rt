@@ -1,5 +1,6 @@
 //! What is said of a refused line: its number, the reason in words, and which byte it is about.
 #![tactic(auto)]
+
 ghost use Rattle.std.specs.Prelude.{◌≡◌, [], ◌∷◌, ◌++◌, ◌+◌, ◌≤◌, length, take};
 ghost use Rattle.meaning.specs.Limits.{program_bytes};
 ghost use Rattle.meaning.specs.Bytes.{bytes};

@@ -1,0 +1,10 @@
+-- The spec stands at the end of its line. Assumes nothing.
+use Rattle.refused_line.proofs.Lines.{from-within, from-small, spec-held}
+use Rattle.refused_line.proofs.Sides.{counted-within}
+use Rattle.refused_line.proofs.byte.spec_from.Goals as goal
+
+pub past-requires : goal.past-requires
+past-requires c = search from-small
+
+pub returns : goal.returns
+returns c = (search spec-held, search (counted-within, from-within))
