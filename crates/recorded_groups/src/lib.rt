@@ -1,5 +1,6 @@
 // A recorded answer to a group, held to ours, field by field. specs/GroupRecord.antt has the record's form.
 #![tactic(auto)]
+
 ghost use Rattle.std.specs.Prelude.{◌≡◌, true, ◌↔◌, ◌≤◌, length, drop};
 ghost use Rattle.meaning.specs.Entries.{match_lhs, match_rhs};
 ghost use Rattle.prefixes.specs.Group.{group_prefixes};
