@@ -1,5 +1,6 @@
 // The answers about one spec in the numbers of the C interface.
 #![tactic(auto)]
+
 ghost use Rattle.std.specs.Prelude.{◌≡◌};
 ghost use Rattle.answers.specs.Numbers.{mode_number, side_numbers, side_answer, flag_number, spec_refused, spec_accepted, spec_answer, instruction_refused, instruction_told, instruction_accepted, instruction_answer, prefix_refused, prefix_accepted, prefix_answer};
 
