@@ -1,5 +1,6 @@
 // The program `deliveries` as a function: the bytes that it prints for the bytes of its input.
 #![tactic(auto)]
+
 ghost use Rattle.std.specs.Prelude.{◌≡◌, ◌≤◌, length, drop};
 ghost use Rattle.meaning.specs.Limits.{program_bytes};
 ghost use Rattle.meaning.specs.Number.{read_bytes};

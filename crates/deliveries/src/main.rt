@@ -1,6 +1,7 @@
 // Reads a number, a spec list of that many bytes and an item list, and prints the fetch rows, or a refusal alone. What cannot be read or
 // written is told on standard error.
 #![tactic(auto)]
+
 ghost use Rattle.std.specs.Prelude.{◌≤◌, length};
 
 use deliver::deliver;

@@ -1,6 +1,7 @@
 // Hands many inputs to the function behind the program `deliveries`, which standard input brings one after the other, each after its
 // length in four bytes, the lowest first, and writes what each prints after a line with its number.
 #![tactic(auto)]
+
 ghost use Rattle.std.specs.Prelude.{◌<◌};
 
 use deliver::deliver;

@@ -2,6 +2,7 @@
 // lines and lines that begin with `#` are passed over. The first line that is refused is told on standard error, and so is what cannot be
 // read or written.
 #![tactic(auto)]
+
 ghost use Rattle.std.specs.Prelude.{◌≤◌, length};
 ghost use Rattle.meaning.specs.Limits.{program_bytes};
 

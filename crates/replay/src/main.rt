@@ -1,5 +1,6 @@
 // Replays the recorded answers of gix-refspec to specs, which standard input brings, and says how many differ from ours.
 #![tactic(auto)]
+
 use replaying::{Kind, replay};
 
 fn main() {

@@ -1,5 +1,6 @@
 // Replays the recorded reports on two specs, which standard input brings, and says how many of them are ours.
 #![tactic(auto)]
+
 use replaying::{Kind, replay};
 
 fn main() {

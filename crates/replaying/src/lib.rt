@@ -1,5 +1,6 @@
 // Replays recorded answers of gix-refspec, or what it showed of two specs, which standard input brings, and says how many of them are ours.
 #![tactic(auto)]
+
 ghost use Rattle.std.specs.Prelude.{◌+◌, ◌≤◌, ◌<◌, length};
 ghost use Rattle.recorded.specs.Record.{sized_room};
 

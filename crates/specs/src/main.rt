@@ -2,6 +2,7 @@
 // are passed over. Where lines are refused, each of them is told on standard error and nothing is printed; what cannot be read or written
 // is told there too.
 #![tactic(auto)]
+
 ghost use Prim.Native.Nat.{◌≤◌};
 ghost use lib.ListN.{length};
 ghost use Rattle.meaning.specs.Limits.{program_bytes};

@@ -1,5 +1,6 @@
 //! What the programs that read a text file have in common: the text is read, its first refused line is told, numbers and texts are printed.
 #![tactic(auto)]
+
 ghost use Rattle.std.specs.Prelude.{◌≡◌, ◌≤◌, length};
 ghost use Rattle.meaning.specs.Limits.{spec_list_bytes, item_list_bytes, program_bytes};
 ghost use Rattle.refused_line.specs.Message.{refused_line};

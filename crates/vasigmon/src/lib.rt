@@ -1,6 +1,7 @@
 // The C interface: include/vasigmon.h declares what stands here. Each entry hands its arguments to the function behind it and gives the
 // answer as plain numbers; no entry asks anything of its caller.
 #![tactic(auto)]
+
 ghost use Rattle.std.specs.Prelude.{◌≡◌};
 ghost use Rattle.meaning.specs.Buffers.{MeetsOne, MeetsMaybe, MeetsTwo};
 ghost use Rattle.meaning.specs.Entries.{to_bstring, expanded, match_lhs, match_rhs, validated};

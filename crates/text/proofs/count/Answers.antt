@@ -9,9 +9,10 @@ loop-i-init c = (omega arith, omega arith, zero-add _)
 
 pub loop-i-preserved : goal.loop-i-preserved
 loop-i-preserved c =
-    elim c.if-s-i.branch
-    [ then-s-i w ↦ (omega arith, omega arith, rw w.n-is (search count-hit))
-    | else-s-i w ↦ (omega arith, omega arith, rw w.n-is (search count-miss)) ]
+    elim c.if-s-i.branch [
+      | then-s-i w ↦ (omega arith, omega arith, rw w.n-is (search count-hit))
+      | else-s-i w ↦ (omega arith, omega arith, rw w.n-is (search count-miss))
+    ]
 
 pub returns : goal.returns
 returns c = search count-done
