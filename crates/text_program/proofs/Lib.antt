@@ -1,2 +1,3 @@
--- `Texts`: how long a text is that was read.
+-- `Texts`: how long a text is that was read. `Saying`: what is printed piece by piece.
 pub mod Texts
+pub mod Saying

@@ -6,13 +6,8 @@ use native.Mathlib.Omega.{arith}
 use lib.ListN.{length, take, length-take}
 use Rattle.meaning.specs.Limits.{program_bytes}
 use Rattle.stdio.specs.declared.Input.{Input}
-use Rattle.stdio.specs.declared.Input.TheVariants.{Read, Failed}
+use Rattle.stdio.specs.declared.Input.TheVariants.{Read}
 use Rattle.text_program.specs.Texts.{TextWithin}
-
--- what stands within some bytes stands within more
-pub within-longer : (m len : ℕ) (r : Input) → m ≤ len → TextWithin m r → TextWithin len r
-within-longer m len (Read n) h w = (omega arith, w.1)
-within-longer m len Failed h w = w
 
 -- a text of n bytes stands in its buffer, and is no longer than its limit
 module _ (len : ℕ) (r : Input) (n : ℕ) (w : TextWithin len r) (e : r ≡ Read n) where

@@ -1,2 +1,3 @@
--- `Texts`: how long a text is that was read.
+-- `Texts`: how long a text is that was read. `Output`: what is printed.
 pub mod Texts
+pub mod Output

@@ -1,20 +1,29 @@
-// Printing on standard output, as long as no write has failed: `whole` says that, and each function answers it anew.
-ghost use Rattle.std.specs.Prelude.{◌≤◌, length};
+// Printing on a program's output, as long as no write has failed: `whole` says that, and each function answers it anew.
+ghost use Rattle.std.specs.Prelude.{◌≡◌, ◌≤◌, ◌<◌, length, get_or, false};
+ghost use Rattle.refused_line.specs.Message.{numeral};
+ghost use Rattle.print.specs.Lines.{coded, printable};
+ghost use Rattle.text_program.specs.Output.{Says, PlainWithin, in_print, line_named};
 
+use print::decimal::put_digits;
 use print::shown::{capital_digit, is_plain};
+use std::io::Write;
 use stdio::say;
 
 // Prints a number in decimal.
-fn say_number(whole: bool, n: usize) -> bool {
+fn say_number<W: Write>(to: &mut W, whole: bool, n: usize) -> bool
+    ensures { Says whole result (W.contents to.old) (W.contents to.new) (numeral n) }
+{
     let mut text = [0u8; 20];
-    let k = io::decimal(n as u64, &mut text);
-    say(whole, &text[..k])
+    let k = put_digits(&mut text, 0, 20, n);
+    say(to, whole, &text[..k])
 }
 
 // Where the bytes from a place on end that are printed as they are.
 fn plain_end(t: &[u8], from: usize) -> usize
     requires { from ≤ length t.now }
-    ensures { (from ≤ result) × (result ≤ length t.now) }
+    ensures within { (from ≤ result) × (result ≤ length t.now) }
+    ensures plain { PlainWithin t.now from result }
+    ensures end { result < length t.now → printable (get_or t.now result 0) ≡ false }
 {
     let mut i = from;
     while i < t.len() {
@@ -27,21 +36,25 @@ fn plain_end(t: &[u8], from: usize) -> usize
 }
 
 // Prints one byte as `%` and two capital hexadecimal digits.
-fn say_coded(whole: bool, b: u8) -> bool {
+fn say_coded<W: Write>(to: &mut W, whole: bool, b: u8) -> bool
+    ensures { Says whole result (W.contents to.old) (W.contents to.new) (coded b) }
+{
     let three = [b'%', capital_digit(b / 16), capital_digit(b % 16)];
-    say(whole, &three)
+    say(to, whole, &three)
 }
 
 // Prints a text: bytes that are printed as they are in one go, and each other one in between.
-pub fn say_text(whole: bool, t: &[u8]) -> bool {
+pub fn say_text<W: Write>(to: &mut W, whole: bool, t: &[u8]) -> bool
+    ensures { Says whole result (W.contents to.old) (W.contents to.new) (in_print t.now) }
+{
     let mut w = whole;
     let mut i = 0;
     while i < t.len() {
         let end = plain_end(t, i);
-        w = say(w, &t[i..end]);
+        w = say(to, w, &t[i..end]);
         i = end;
         if i < t.len() {
-            w = say_coded(w, t[i]);
+            w = say_coded(to, w, t[i]);
             i += 1;
         }
     }
@@ -49,7 +62,9 @@ pub fn say_text(whole: bool, t: &[u8]) -> bool {
 }
 
 // Names a line by its number.
-pub fn say_line(whole: bool, number: usize) -> bool {
-    let w = say(whole, b"line ");
-    say_number(w, number)
+pub fn say_line<W: Write>(to: &mut W, whole: bool, number: usize) -> bool
+    ensures { Says whole result (W.contents to.old) (W.contents to.new) (line_named number) }
+{
+    let w = say(to, whole, b"line ");
+    say_number(to, w, number)
 }
