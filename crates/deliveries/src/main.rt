@@ -2,26 +2,33 @@
 // written is told on standard error.
 #![tactic(auto)]
 
-ghost use Rattle.std.specs.Prelude.{◌≤◌, length};
+ghost use Rattle.std.specs.Prelude.{◌≡◌, ◌≤◌, true, length, take};
+ghost use Rattle.std.specs.Io.KnownBytes.{Appends};
+ghost use Rattle.meaning.specs.Deliveries.{deliveries};
 
 use deliver::deliver;
 use limits::PROGRAM_BYTES;
+use std::io::Write;
 use stdio::{INPUT_ROOM, Input, finish, read_input, say, tell_unread};
 
-// Prints what the first n bytes of a buffer give.
-fn show_first(buffer: &[u8], n: usize)
+// Prints what the first n bytes of a buffer give; answers whether all was written.
+fn show_first<W: Write>(to: &mut W, buffer: &[u8], n: usize) -> bool
     requires { n ≤ length buffer.now }
+    ensures { result ≡ true → Appends (W.contents to.old) (W.contents to.new) (deliveries (take n buffer.now)) }
 {
     let mut rows = [0u8; PROGRAM_BYTES];
     let mut out = [0u8; PROGRAM_BYTES];
     let size = deliver(&buffer[..n], &mut rows, &mut out);
-    finish(say(true, &out[..size]));
+    say(to, true, &out[..size])
 }
 
-fn main() {
+fn main(rt: HostRuntime) {
     let mut input = [0u8; INPUT_ROOM];
-    match read_input(&mut input) {
-        Input::Read(n) => show_first(&input, n),
-        Input::Failed => tell_unread(),
+    match read_input(&mut rt.stdin(), &mut input) {
+        Input::Read(n) => {
+            let whole = show_first(&mut rt.stdout(), &input, n);
+            finish(&mut rt.stderr(), whole);
+        }
+        Input::Failed => tell_unread(&mut rt.stderr()),
     }
 }
