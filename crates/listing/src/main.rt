@@ -8,44 +8,46 @@ ghost use Rattle.meaning.specs.Limits.{program_bytes};
 
 use deliver::print_lists;
 use limits::{ITEM_LIST_BYTES, PROGRAM_BYTES, SPEC_LIST_BYTES};
+use std::io::Write;
 use stdio::{INPUT_ROOM, Input, finish, say, tell};
 use text_program::{gather_or_tell, read_text};
 
 // Prints a listing. Its header does not begin so: this is 17, the one refusal of lists that were gathered.
-fn show_printed(t: &[u8]) {
+fn show_printed<W: Write, E: Write>(output: &mut W, errors: &mut E, t: &[u8]) {
     if compare::begins(b"refused ", t) {
-        tell(b"the listing is above 65,536 bytes\n");
+        tell(errors, b"the listing is above 65,536 bytes\n");
         return;
     }
-    finish(say(true, t));
+    let whole = say(output, true, t);
+    finish(errors, whole);
 }
 
 // Prints the listing of a spec list and an item list.
-fn show_lists(specs: &[u8], items: &[u8]) {
+fn show_lists<W: Write, E: Write>(output: &mut W, errors: &mut E, specs: &[u8], items: &[u8]) {
     let mut rows = [0u8; PROGRAM_BYTES];
     let mut out = [0u8; PROGRAM_BYTES];
     let size = print_lists(specs, items, &mut rows, &mut out);
-    show_printed(&out[..size]);
+    show_printed(output, errors, &out[..size]);
 }
 
 // Prints what the lines of a text give.
-fn show(input: &[u8])
+fn show<W: Write, E: Write>(output: &mut W, errors: &mut E, input: &[u8])
     requires { length input.now ≤ program_bytes }
 {
     let mut specs = [0u8; SPEC_LIST_BYTES];
     let mut items = [0u8; ITEM_LIST_BYTES];
-    let g = gather_or_tell(input, &mut specs, &mut items);
+    let g = gather_or_tell(errors, input, &mut specs, &mut items);
     if g.reason == 0 {
         let n = g.specs;
         let m = g.items;
-        show_lists(&specs[..n], &items[..m]);
+        show_lists(output, errors, &specs[..n], &items[..m]);
     }
 }
 
-fn main() {
+fn main(rt: HostRuntime) {
     let mut input = [0u8; INPUT_ROOM];
-    match read_text(&mut input) {
-        Input::Read(n) => show(&input[..n]),
+    match read_text(&mut rt.stdin(), &mut rt.stderr(), &mut input) {
+        Input::Read(n) => show(&mut rt.stdout(), &mut rt.stderr(), &input[..n]),
         Input::Failed => {}
     }
 }
