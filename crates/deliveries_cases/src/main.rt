@@ -5,8 +5,8 @@
 ghost use Rattle.std.specs.Prelude.{◌<◌};
 
 use deliver::deliver;
-use libc::{STDIN_FILENO, STDOUT_FILENO};
 use limits::PROGRAM_BYTES;
+use std::io::{Read, Write};
 use stdio::INPUT_ROOM;
 
 // A byte as a number.
@@ -22,49 +22,47 @@ fn length_of(four: [u8; 4]) -> usize {
 }
 
 // Prints what an input gives.
-fn print_input(input: &[u8]) {
+fn print_input<W: Write>(output: &mut W, input: &[u8]) {
     let mut rows = [0u8; PROGRAM_BYTES];
     let mut out = [0u8; PROGRAM_BYTES];
     let size = deliver(input, &mut rows, &mut out);
-    io::write_all(STDOUT_FILENO, &out[..size]);
+    let _ = output.write_all(&out[..size]);
 }
 
 // Reads an input that fills the buffer, and prints what it gives; false where it is cut short.
-fn print_in(buffer: &mut [u8]) -> bool {
-    if io::read_full(STDIN_FILENO, buffer) < buffer.len() {
+fn print_in<R: Read, W: Write>(from: &mut R, output: &mut W, buffer: &mut [u8]) -> bool {
+    if from.read_exact(buffer).is_err() {
         return false;
     }
-    print_input(buffer);
+    print_input(output, buffer);
     true
 }
 
 // Reads an input of n bytes, and prints what it gives.
-fn print_of(n: usize) -> bool {
+fn print_of<R: Read, W: Write>(from: &mut R, output: &mut W, n: usize) -> bool {
     let mut buffer = [0u8; INPUT_ROOM];
     if buffer.len() < n {
         return false;
     }
-    print_in(&mut buffer[..n])
+    print_in(from, output, &mut buffer[..n])
 }
 
 // Reads the next input, after its length, and prints its number and what it gives; false where there is none.
-fn print_next(number: u64) -> bool {
+fn print_next<R: Read, W: Write>(from: &mut R, output: &mut W, number: u64) -> bool {
     let mut four = [0u8; 4];
-    if io::read_full(STDIN_FILENO, &mut four) < 4 {
+    if from.read_exact(&mut four).is_err() {
         return false;
     }
-    io::write_all(STDOUT_FILENO, b"input ");
-    io::print_decimal(STDOUT_FILENO, number);
-    io::write_all(STDOUT_FILENO, b"\n");
-    print_of(length_of(four))
+    let _ = writeln!(output, "input {number}");
+    print_of(from, output, length_of(four))
 }
 
 // The count of turns only makes this end: no list of inputs uses it up.
-fn main() {
+fn main(rt: HostRuntime) {
     let mut more = true;
     let mut number: u64 = 0;
     while number < u64::MAX && more {
-        more = print_next(number);
+        more = print_next(&mut rt.stdin(), &mut rt.stdout(), number);
         number += 1;
     }
 }
