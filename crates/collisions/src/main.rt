@@ -8,6 +8,7 @@ ghost use Rattle.std.specs.Prelude.{◌≤◌, length};
 ghost use Rattle.meaning.specs.Limits.{program_bytes};
 
 use limits::{ITEM_LIST_BYTES, SPEC_LIST_BYTES};
+use std::io::Write;
 use stdio::{INPUT_ROOM, Input, finish};
 use text_program::{gather_or_tell, read_text};
 
@@ -16,21 +17,22 @@ mod pairs;
 use pairs::show_pairs;
 
 // Tells the first line of a text that is refused, or prints the pairs of its specs.
-fn show(input: &[u8])
+fn show<W: Write, E: Write>(output: &mut W, errors: &mut E, input: &[u8])
     requires { length input.now ≤ program_bytes }
 {
     let mut specs = [0u8; SPEC_LIST_BYTES];
     let mut items = [0u8; ITEM_LIST_BYTES];
-    let g = gather_or_tell(input, &mut specs, &mut items);
+    let g = gather_or_tell(errors, input, &mut specs, &mut items);
     if g.reason == 0 {
-        finish(show_pairs(input));
+        let whole = show_pairs(output, input);
+        finish(errors, whole);
     }
 }
 
-fn main() {
+fn main(rt: HostRuntime) {
     let mut input = [0u8; INPUT_ROOM];
-    match read_text(&mut input) {
-        Input::Read(n) => show(&input[..n]),
+    match read_text(&mut rt.stdin(), &mut rt.stderr(), &mut input) {
+        Input::Read(n) => show(&mut rt.stdout(), &mut rt.stderr(), &input[..n]),
         Input::Failed => {}
     }
 }

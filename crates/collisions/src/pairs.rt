@@ -1,9 +1,12 @@
 // The pairs of specs that can collide, an earlier line before a later one.
 ghost use Rattle.std.specs.Prelude.{◌+◌, ◌≤◌, length};
 ghost use Rattle.meaning.specs.Limits.{program_bytes};
+ghost use Rattle.text_program.specs.Output.{Says};
+ghost use Rattle.collisions.specs.Pairs.{pair_line};
 
 use collide::collide;
 use limits::SPEC_BYTES;
+use std::io::Write;
 use stdio::say;
 use text_lists::line::{Line, classify, next_line};
 use text_program::output::{say_line, say_text};
@@ -20,17 +23,32 @@ struct Shown {
 }
 
 // Prints that two lines can write a destination.
-fn say_pair(whole: bool, first: usize, second: usize, destination: &[u8]) -> bool {
-    let a = say_line(whole, first);
-    let b = say(a, b" and ");
-    let c = say_line(b, second);
-    let d = say(c, b" can both write =");
-    let e = say_text(d, destination);
-    say(e, b"\n")
+fn say_pair<W: Write>(
+    to: &mut W,
+    whole: bool,
+    first: usize,
+    second: usize,
+    destination: &[u8],
+) -> bool
+    ensures { Says whole result (W.contents to.old) (W.contents to.new) (pair_line first second destination.now) }
+{
+    let a = say_line(to, whole, first);
+    let b = say(to, a, b" and ");
+    let c = say_line(to, b, second);
+    let d = say(to, c, b" can both write =");
+    let e = say_text(to, d, destination);
+    say(to, e, b"\n")
 }
 
 // Prints the pair of two specs, which stand on lines of these numbers, if they can collide.
-fn show_pair(so: Shown, first: usize, one: &[u8], second: usize, other: &[u8]) -> Shown {
+fn show_pair<W: Write>(
+    to: &mut W,
+    so: Shown,
+    first: usize,
+    one: &[u8],
+    second: usize,
+    other: &[u8],
+) -> Shown {
     let mut out = [0u8; DESTINATION_ROOM];
     let c = collide(one, other, &mut out);
     if c.collides == 0 {
@@ -38,7 +56,7 @@ fn show_pair(so: Shown, first: usize, one: &[u8], second: usize, other: &[u8]) -
     }
     let n = c.length as usize;
     Shown {
-        whole: say_pair(so.whole, first, second, &out[..n]),
+        whole: say_pair(to, so.whole, first, second, &out[..n]),
         some: true,
     }
 }
@@ -59,16 +77,30 @@ fn spec_start(line: &[u8]) -> usize
 }
 
 // Prints the pair of a spec and the spec of a later line.
-fn show_with(so: Shown, first: usize, one: &[u8], second: usize, line: &[u8]) -> Shown {
+fn show_with<W: Write>(
+    to: &mut W,
+    so: Shown,
+    first: usize,
+    one: &[u8],
+    second: usize,
+    line: &[u8],
+) -> Shown {
     let start = spec_start(line);
     if start == 0 {
         return so;
     }
-    show_pair(so, first, one, second, &line[start..])
+    show_pair(to, so, first, one, second, &line[start..])
 }
 
 // Prints the pairs of a spec, which stands on the line before a place, and the specs from there on.
-fn show_later(so: Shown, first: usize, one: &[u8], s: &[u8], from: usize) -> Shown
+fn show_later<W: Write>(
+    to: &mut W,
+    so: Shown,
+    first: usize,
+    one: &[u8],
+    s: &[u8],
+    from: usize,
+) -> Shown
     requires { (first ≤ from) × (from ≤ length s.now + 1) × (length s.now ≤ program_bytes) }
 {
     let mut shown = so;
@@ -77,7 +109,7 @@ fn show_later(so: Shown, first: usize, one: &[u8], s: &[u8], from: usize) -> Sho
     while at < s.len() {
         let extent = next_line(s, at);
         let end = extent.end;
-        shown = show_with(shown, first, one, number, &s[at..end]);
+        shown = show_with(to, shown, first, one, number, &s[at..end]);
         at = extent.next;
         number += 1;
     }
@@ -85,18 +117,25 @@ fn show_later(so: Shown, first: usize, one: &[u8], s: &[u8], from: usize) -> Sho
 }
 
 // Prints the pairs of the spec of a line, which ends before a place, and the specs from there on.
-fn show_of(so: Shown, first: usize, line: &[u8], s: &[u8], from: usize) -> Shown
+fn show_of<W: Write>(
+    to: &mut W,
+    so: Shown,
+    first: usize,
+    line: &[u8],
+    s: &[u8],
+    from: usize,
+) -> Shown
     requires { (first ≤ from) × (from ≤ length s.now + 1) × (length s.now ≤ program_bytes) }
 {
     let start = spec_start(line);
     if start == 0 {
         return so;
     }
-    show_later(so, first, &line[start..], s, from)
+    show_later(to, so, first, &line[start..], s, from)
 }
 
 // Prints each pair of specs that can collide.
-fn show_each(s: &[u8]) -> Shown
+fn show_each<W: Write>(to: &mut W, s: &[u8]) -> Shown
     requires { length s.now ≤ program_bytes }
 {
     let mut shown = Shown {
@@ -109,7 +148,7 @@ fn show_each(s: &[u8]) -> Shown
         let extent = next_line(s, at);
         let end = extent.end;
         let next = extent.next;
-        shown = show_of(shown, number, &s[at..end], s, next);
+        shown = show_of(to, shown, number, &s[at..end], s, next);
         at = next;
         number += 1;
     }
@@ -117,14 +156,15 @@ fn show_each(s: &[u8]) -> Shown
 }
 
 // Prints each pair of specs that can collide, or in words that there is none; answers whether all was written.
-pub(crate) fn show_pairs(s: &[u8]) -> bool
+pub(crate) fn show_pairs<W: Write>(to: &mut W, s: &[u8]) -> bool
     requires { length s.now ≤ program_bytes }
 {
-    let shown = show_each(s);
+    let shown = show_each(to, s);
     if shown.some {
         return shown.whole;
     }
     say(
+        to,
         shown.whole,
         b"no two of these specs can ever write one destination\n",
     )

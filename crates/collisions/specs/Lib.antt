@@ -1,0 +1,2 @@
+-- `Pairs`: what is printed of a pair.
+pub mod Pairs
