@@ -3,10 +3,10 @@
 // is told there too.
 #![tactic(auto)]
 
-ghost use Prim.Native.Nat.{◌≤◌};
-ghost use lib.ListN.{length};
+ghost use Rattle.std.specs.Prelude.{◌≤◌, length};
 ghost use Rattle.meaning.specs.Limits.{program_bytes};
 
+use std::io::Write;
 use stdio::{INPUT_ROOM, Input, finish};
 use text_lists::line::{Line, classify, next_line};
 use text_program::read_text;
@@ -18,19 +18,26 @@ use refused::tell_lines;
 use show::show_spec;
 
 // Prints what the spec that begins at a place of its line becomes.
-fn show_from(whole: bool, number: usize, op: u64, line: &[u8], start: usize) -> bool {
+fn show_from<W: Write>(
+    to: &mut W,
+    whole: bool,
+    number: usize,
+    op: u64,
+    line: &[u8],
+    start: usize,
+) -> bool {
     if start <= line.len() {
-        return show_spec(whole, number, op, &line[start..]);
+        return show_spec(to, whole, number, op, &line[start..]);
     }
     whole
 }
 
 // Prints what a line becomes.
-fn show_line(whole: bool, number: usize, line: &[u8]) -> bool {
+fn show_line<W: Write>(to: &mut W, whole: bool, number: usize, line: &[u8]) -> bool {
     match classify(line) {
         Line::Nothing => whole,
-        Line::Fetch(start) => show_from(whole, number, 0, line, start),
-        Line::Push(start) => show_from(whole, number, 1, line, start),
+        Line::Fetch(start) => show_from(to, whole, number, 0, line, start),
+        Line::Push(start) => show_from(to, whole, number, 1, line, start),
         Line::Name(_) => whole,
         Line::Shown(_) => whole,
         Line::Marked => whole,
@@ -39,7 +46,7 @@ fn show_line(whole: bool, number: usize, line: &[u8]) -> bool {
 }
 
 // Prints what each line becomes.
-fn show_lines(s: &[u8]) -> bool
+fn show_lines<W: Write>(to: &mut W, s: &[u8]) -> bool
     requires { length s.now ≤ program_bytes }
 {
     let mut whole = true;
@@ -48,7 +55,7 @@ fn show_lines(s: &[u8]) -> bool
     while at < s.len() {
         let extent = next_line(s, at);
         let end = extent.end;
-        whole = show_line(whole, number, &s[at..end]);
+        whole = show_line(to, whole, number, &s[at..end]);
         at = extent.next;
         number += 1;
     }
@@ -56,19 +63,20 @@ fn show_lines(s: &[u8]) -> bool
 }
 
 // Tells the lines that are refused, or prints what each line becomes.
-fn answer(s: &[u8])
+fn answer<W: Write, E: Write>(output: &mut W, errors: &mut E, s: &[u8])
     requires { length s.now ≤ program_bytes }
 {
-    if tell_lines(s) {
+    if tell_lines(errors, s) {
         return;
     }
-    finish(show_lines(s));
+    let whole = show_lines(output, s);
+    finish(errors, whole);
 }
 
-fn main() {
+fn main(rt: HostRuntime) {
     let mut input = [0u8; INPUT_ROOM];
-    match read_text(&mut input) {
-        Input::Read(n) => answer(&input[..n]),
+    match read_text(&mut rt.stdin(), &mut rt.stderr(), &mut input) {
+        Input::Read(n) => answer(&mut rt.stdout(), &mut rt.stderr(), &input[..n]),
         Input::Failed => {}
     }
 }

@@ -1,9 +1,9 @@
 // The lines that are refused, told on standard error.
-ghost use Prim.Native.Nat.{◌≤◌};
-ghost use lib.ListN.{length};
+ghost use Rattle.std.specs.Prelude.{◌≤◌, length};
 ghost use Rattle.meaning.specs.Limits.{program_bytes};
 
 use parse::Parsed;
+use std::io::Write;
 use text_lists::line::{Line, classify, next_line};
 use text_lists::{MARKED, UNKNOWN};
 use text_program::tell_refused;
@@ -38,19 +38,19 @@ fn line_reason(line: &[u8]) -> u64 {
 }
 
 // Tells that a line is refused, if it is; answers whether it is.
-fn tell_line(number: usize, line: &[u8]) -> bool
+fn tell_line<E: Write>(errors: &mut E, number: usize, line: &[u8]) -> bool
     requires { length line.now ≤ program_bytes }
 {
     let reason = line_reason(line);
     if reason == 0 {
         return false;
     }
-    tell_refused(number, reason, line);
+    tell_refused(errors, number, reason, line);
     true
 }
 
 // Tells each line that is refused; answers whether one is.
-pub(crate) fn tell_lines(s: &[u8]) -> bool
+pub(crate) fn tell_lines<E: Write>(errors: &mut E, s: &[u8]) -> bool
     requires { length s.now ≤ program_bytes }
 {
     let mut some = false;
@@ -59,7 +59,7 @@ pub(crate) fn tell_lines(s: &[u8]) -> bool
     while at < s.len() {
         let extent = next_line(s, at);
         let end = extent.end;
-        some = tell_line(number, &s[at..end]) | some;
+        some = tell_line(errors, number, &s[at..end]) | some;
         at = extent.next;
         number += 1;
     }
