@@ -23,6 +23,7 @@ const ROW_LEAST: usize = 5;
 const MANY: usize = ROW_LIST_BYTES / ROW_LEAST + 1;
 
 // The conflicts of a list of few rows.
+#[inline(never)]
 fn put_few(out: &mut [u8], rows: &[u8], specs: usize) -> usize
     requires { RowsRead specs rows.now × (length (rows_in specs rows.now) ≤ few_rows) }
     ensures { (result ≡ length (conflicts_bytes (rows_in specs rows.now))) × (out.new ≡ put_if_room out.old (conflicts_bytes (rows_in specs rows.now))) }
@@ -47,6 +48,7 @@ fn put_some_in(
 }
 
 // The conflicts of a list of more rows than few.
+#[inline(never)]
 fn put_some(out: &mut [u8], rows: &[u8], specs: usize) -> usize
     requires { RowsRead specs rows.now × (length (rows_in specs rows.now) ≤ some_rows) }
     ensures { (result ≡ length (conflicts_bytes (rows_in specs rows.now))) × (out.new ≡ put_if_room out.old (conflicts_bytes (rows_in specs rows.now))) }
@@ -71,6 +73,7 @@ fn put_many_in(
 }
 
 // The conflicts of any list.
+#[inline(never)]
 fn put_many(out: &mut [u8], rows: &[u8], specs: usize) -> usize
     requires { RowsRead specs rows.now }
     ensures { (result ≡ length (conflicts_bytes (rows_in specs rows.now))) × (out.new ≡ put_if_room out.old (conflicts_bytes (rows_in specs rows.now))) }
@@ -80,34 +83,20 @@ fn put_many(out: &mut [u8], rows: &[u8], specs: usize) -> usize
     put_many_in(out, rows, specs, &mut index, &mut scratch)
 }
 
-// How many specs a row list is of, how many rows it has, and how many rows an index has room for.
-#[derive(Clone, Copy)]
-pub(crate) struct Counts {
-    pub(crate) specs: usize,
-    pub(crate) rows: usize,
-    pub(crate) room: usize,
-}
-
-// The conflicts of a list of so many rows, by an index that has room for so many, or else by the next larger one. It calls itself, so that
-// LLVM leaves each index in a frame of its own: where all were in one frame, every list would take the stack of the longest. The counts
-// are one struct, which the call gets as a place in this frame. So LLVM cannot make a loop of the call, and the indexes one frame.
-pub(crate) fn put_from(out: &mut [u8], rows: &[u8], counts: Counts) -> usize
-    requires { RowsRead counts.specs rows.now × (counts.rows ≡ length (rows_in counts.specs rows.now)) × (0 < counts.room) }
-    ensures { (result ≡ length (conflicts_bytes (rows_in counts.specs rows.now))) × (out.new ≡ put_if_room out.old (conflicts_bytes (rows_in counts.specs rows.now))) }
+// The conflicts of a list of so many rows, by an index that has room for `room` rows, or else by the next larger one. The functions that
+// have an index are `#[inline(never)]`, so each index is in a frame of its own: in one frame, every list would take the stack of the longest.
+pub(crate) fn put_from(
+    out: &mut [u8],
+    rows: &[u8],
+    specs: usize,
+    count: usize,
+    room: usize,
+) -> usize
+    requires { RowsRead specs rows.now × (count ≡ length (rows_in specs rows.now)) × (0 < room) }
+    ensures { (result ≡ length (conflicts_bytes (rows_in specs rows.now))) × (out.new ≡ put_if_room out.old (conflicts_bytes (rows_in specs rows.now))) }
 {
-    let specs = counts.specs;
-    let count = counts.rows;
-    let room = counts.room;
     if room < count {
-        return put_from(
-            out,
-            rows,
-            Counts {
-                specs,
-                rows: count,
-                room: STEP * room,
-            },
-        );
+        return put_from(out, rows, specs, count, STEP * room);
     }
     if room <= FEW {
         return put_few(out, rows, specs);

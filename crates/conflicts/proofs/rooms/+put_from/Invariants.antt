@@ -4,4 +4,4 @@ use Prim.Native.Nat.{◌-◌}
 use Rattle.conflicts.proofs.rooms.+put_from.Given as goal
 
 abbrev pub decreases-put_from : goal.decreases-put_from
-decreases-put_from l = l.counts.rows - l.counts.room
+decreases-put_from l = l.count - l.room
