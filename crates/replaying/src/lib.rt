@@ -1,10 +1,14 @@
-// Replays recorded answers of gix-refspec, or what it showed of two specs, which standard input brings, and says how many of them are ours.
+// Replays recorded answers of gix-refspec, or what it showed of two specs, one after the other, and says how many of them are ours.
 #![tactic(auto)]
 
 ghost use Rattle.std.specs.Prelude.{◌+◌, ◌≤◌, ◌<◌, length};
 ghost use Rattle.recorded.specs.Record.{sized_room};
 
-use libc::{STDIN_FILENO, STDOUT_FILENO};
+use std::io::{Read, Write};
+use stdio::{Input, read_input};
+
+// Room for a record, and for what is made of it.
+const ROOM: usize = 65536;
 
 // How many differing answers are named.
 const NAMED: u64 = 10;
@@ -58,11 +62,11 @@ fn agrees(kind: Kind, record: &[u8], scratch: &mut [u8]) -> bool
 }
 
 // Reads a record that fills the buffer, and compares it.
-fn compare_in(kind: Kind, buffer: &mut [u8]) -> Turn {
-    if io::read_full(STDIN_FILENO, buffer) < buffer.len() {
+fn compare_in<R: Read>(from: &mut R, kind: Kind, buffer: &mut [u8]) -> Turn {
+    if from.read_exact(buffer).is_err() {
         return Turn::Broken;
     }
-    let mut scratch = io::large_buffer();
+    let mut scratch = [0u8; ROOM];
     if agrees(kind, buffer, &mut scratch) {
         return Turn::Agrees;
     }
@@ -70,69 +74,67 @@ fn compare_in(kind: Kind, buffer: &mut [u8]) -> Turn {
 }
 
 // Reads a record of n bytes, and compares it.
-fn compare(kind: Kind, n: usize) -> Turn {
-    let mut buffer = io::large_buffer();
+fn compare<R: Read>(from: &mut R, kind: Kind, n: usize) -> Turn {
+    let mut buffer = [0u8; ROOM];
     if buffer.len() < n {
         return Turn::Broken;
     }
-    compare_in(kind, &mut buffer[..n])
+    compare_in(from, kind, &mut buffer[..n])
 }
 
 // Reads the next record, after its length, and compares it.
-fn next(kind: Kind) -> Turn {
+fn next<R: Read>(from: &mut R, kind: Kind) -> Turn {
     let mut four = [0u8; 4];
-    let got = io::read_full(STDIN_FILENO, &mut four);
-    if got == 0 {
-        return Turn::End;
+    match read_input(from, &mut four) {
+        Input::Read(0) => Turn::End,
+        Input::Read(4) => compare(from, kind, length_of(four)),
+        Input::Read(_) => Turn::Broken,
+        Input::Failed => Turn::Broken,
     }
-    if got < 4 {
-        return Turn::Broken;
-    }
-    compare(kind, length_of(four))
 }
 
 // Prints words.
-fn say(words: &[u8]) {
-    io::write_all(STDOUT_FILENO, words);
+fn say<W: Write>(to: &mut W, words: &[u8]) {
+    let _ = to.write_all(words);
 }
 
 // Prints a number and words after it.
-fn say_number(n: u64, words: &[u8]) {
-    io::print_decimal(STDOUT_FILENO, n);
-    say(words);
+fn say_number<W: Write>(to: &mut W, n: u64, words: &[u8]) {
+    let _ = write!(to, "{n}");
+    say(to, words);
 }
 
 // Prints what an answer is about.
-fn say_kind(kind: Kind) {
+fn say_kind<W: Write>(to: &mut W, kind: Kind) {
     match kind {
-        Kind::Specs => say(b"answer "),
-        Kind::Groups => say(b"group "),
-        Kind::Pairs => say(b"pair "),
+        Kind::Specs => say(to, b"answer "),
+        Kind::Groups => say(to, b"group "),
+        Kind::Pairs => say(to, b"pair "),
     }
 }
 
 // Names an answer that differs, unless enough have been named.
-fn name(kind: Kind, number: u64, named: u64, words: &[u8]) {
+fn name<W: Write>(to: &mut W, kind: Kind, number: u64, named: u64, words: &[u8]) {
     if NAMED <= named {
         return;
     }
-    say_kind(kind);
-    say_number(number, words);
+    say_kind(to, kind);
+    say_number(to, number, words);
 }
 
 // One answer more that differs.
-fn differing(kind: Kind, t: Tally, more: bool, words: &[u8]) -> Tally
+fn differing<W: Write>(to: &mut W, kind: Kind, t: Tally, more: bool, words: &[u8]) -> Tally
     requires { (t.read < 18446744073709551615) × (t.differ ≤ t.read) }
     ensures { (result.read ≤ t.read + 1) × (result.differ ≤ result.read) }
 {
-    name(kind, t.read, t.differ, words);
+    name(to, kind, t.read, t.differ, words);
     let read = t.read + 1;
     let differ = t.differ + 1;
     Tally { read, differ, more }
 }
 
 // The tally after a turn.
-fn counted(kind: Kind, t: Tally, turn: Turn) -> Tally
+fn counted<W: Write>(to: &mut W, kind: Kind, t: Tally, turn: Turn) -> Tally
     requires { (t.read < 18446744073709551615) × (t.differ ≤ t.read) }
     ensures { (result.read ≤ t.read + 1) × (result.differ ≤ result.read) }
 {
@@ -142,18 +144,18 @@ fn counted(kind: Kind, t: Tally, turn: Turn) -> Tally
             differ: t.differ,
             more: false,
         },
-        Turn::Broken => differing(kind, t, false, b" is cut short\n"),
+        Turn::Broken => differing(to, kind, t, false, b" is cut short\n"),
         Turn::Agrees => Tally {
             read: t.read + 1,
             differ: t.differ,
             more: true,
         },
-        Turn::Differs => differing(kind, t, true, b" differs\n"),
+        Turn::Differs => differing(to, kind, t, true, b" differs\n"),
     }
 }
 
 // The tally of the whole list. The count of turns only makes this end: no list uses it up.
-fn replayed(kind: Kind) -> Tally
+fn replayed<R: Read, W: Write>(from: &mut R, to: &mut W, kind: Kind) -> Tally
     ensures { result.differ ≤ result.read }
 {
     let mut t = Tally {
@@ -163,27 +165,28 @@ fn replayed(kind: Kind) -> Tally
     };
     let mut turns = u64::MAX;
     while 0 < turns && t.more {
-        t = counted(kind, t, next(kind));
+        let turn = next(from, kind);
+        t = counted(to, kind, t, turn);
         turns -= 1;
     }
     t
 }
 
 // Replays the answers, and prints how many there are and how many of them differ or, of groups and pairs, agree.
-pub fn replay(kind: Kind) {
-    let t = replayed(kind);
+pub fn replay<R: Read, W: Write>(from: &mut R, to: &mut W, kind: Kind) {
+    let t = replayed(from, to, kind);
     match kind {
         Kind::Specs => {
-            say_number(t.read, b" answers, ");
-            say_number(t.differ, b" differ\n");
+            say_number(to, t.read, b" answers, ");
+            say_number(to, t.differ, b" differ\n");
         },
         Kind::Groups => {
-            say_number(t.read, b" groups, ");
-            say_number(t.read - t.differ, b" agree\n");
+            say_number(to, t.read, b" groups, ");
+            say_number(to, t.read - t.differ, b" agree\n");
         },
         Kind::Pairs => {
-            say_number(t.read, b" pairs, ");
-            say_number(t.read - t.differ, b" agree\n");
+            say_number(to, t.read, b" pairs, ");
+            say_number(to, t.read - t.differ, b" agree\n");
         },
     }
 }
