@@ -3,6 +3,6 @@
 
 use replaying::{Kind, replay};
 
-fn main() {
-    replay(Kind::Groups);
+fn main(rt: HostRuntime) {
+    replay(&mut rt.stdin(), &mut rt.stdout(), Kind::Groups);
 }
