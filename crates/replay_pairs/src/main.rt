@@ -3,6 +3,6 @@
 
 use replaying::{Kind, replay};
 
-fn main() {
-    replay(Kind::Pairs);
+fn main(rt: HostRuntime) {
+    replay(&mut rt.stdin(), &mut rt.stdout(), Kind::Pairs);
 }
