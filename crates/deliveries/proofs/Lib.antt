@@ -1,0 +1,2 @@
+-- `Inputs`: an input that was read gives what its bytes give.
+pub mod Inputs
