@@ -1,10 +1,7 @@
--- What is read into a part of a buffer stands after what was read before, and within the buffer. Assumes nothing.
+-- What is read into a part of a buffer stands after what was read before. Assumes nothing.
 use Rattle.std.proofs.Common.{◌≡◌, ℕ, ◌+◌, ◌-◌, ◌≤◌, List, ◌++◌, arith, length, take, slice_range, sym, ap, ◌∙◌, drop_at, length-take-le}
 use lib.Seq.{take-add, take-append-le}
 use borrow.Rule.Slice.PartMut.{put_mid, post_of}
-use Rattle.stdio.specs.declared.Input.{Input}
-use Rattle.stdio.specs.declared.Input.TheVariants.{Read}
-use Rattle.stdio.specs.Streams.{ReadWithin}
 
 -- the front stayed, so that front and what was put after it are a longer front
 pub take_split : (a b : ℕ) (old new : List ℕ) → a ≤ b → take a new ≡ take a old → take a old ++ slice_range new a b ≡ take b new
@@ -18,7 +15,3 @@ slice_range-put_mid a k n xs ys within fits =
     let same : (a + n) - a ≡ n = omega arith in
     let after = post_of a k xs in
     ap (take ((a + n) - a)) (drop_at (take a xs) (ys ++ after) a (length-take-le a xs within)) ∙ ap (λ m. take m (ys ++ after)) same ∙ take-append-le n ys after fits
-
--- what was read stands within the buffer
-pub read-within : (len : ℕ) (r : Input) (n : ℕ) → ReadWithin len r → r ≡ Read n → n ≤ len
-read-within len r n h e = rw e at h

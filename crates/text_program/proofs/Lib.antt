@@ -1,3 +1,2 @@
--- `Texts`: how long a text is that was read. `Saying`: what is printed piece by piece.
-pub mod Texts
+-- `Saying`: what is printed piece by piece.
 pub mod Saying
