@@ -5,7 +5,6 @@ ghost use Rattle.std.specs.Prelude.{◌+◌, ◌≤◌, ◌<◌, length};
 ghost use Rattle.recorded.specs.Record.{sized_room};
 
 use std::io::{Read, Write};
-use stdio::{Input, read_input};
 
 // Room for a record, and for what is made of it.
 const ROOM: usize = 65536;
@@ -61,9 +60,24 @@ fn agrees(kind: Kind, record: &[u8], scratch: &mut [u8]) -> bool
     }
 }
 
+// Reads until the buffer is full, the input ends or a read fails; how many bytes were read.
+fn read_full<R: Read>(from: &mut R, buffer: &mut [u8]) -> usize
+    ensures { result ≤ length buffer.new }
+{
+    let mut at = 0;
+    while at < buffer.len() {
+        match from.read(&mut buffer[at..]) {
+            Ok(0) => return at,
+            Ok(n) => at += n,
+            Err(_) => return at,
+        }
+    }
+    at
+}
+
 // Reads a record that fills the buffer, and compares it.
 fn compare_in<R: Read>(from: &mut R, kind: Kind, buffer: &mut [u8]) -> Turn {
-    if from.read_exact(buffer).is_err() {
+    if read_full(from, buffer) < buffer.len() {
         return Turn::Broken;
     }
     let mut scratch = [0u8; ROOM];
@@ -85,12 +99,14 @@ fn compare<R: Read>(from: &mut R, kind: Kind, n: usize) -> Turn {
 // Reads the next record, after its length, and compares it.
 fn next<R: Read>(from: &mut R, kind: Kind) -> Turn {
     let mut four = [0u8; 4];
-    match read_input(from, &mut four) {
-        Input::Read(0) => Turn::End,
-        Input::Read(4) => compare(from, kind, length_of(four)),
-        Input::Read(_) => Turn::Broken,
-        Input::Failed => Turn::Broken,
+    let got = read_full(from, &mut four);
+    if got == 0 {
+        return Turn::End;
     }
+    if got < 4 {
+        return Turn::Broken;
+    }
+    compare(from, kind, length_of(four))
 }
 
 // Prints words.
