@@ -1,5 +1,5 @@
 -- The meaning of documents 01 and 02, on bytes; docs/READING.md teaches the notation. Read from the top: each file rests on those above it. A
--- name in camel_case is a definition, one in kebab-case a fact, also where it is a field of a record.
+-- name in kebab-case is a fact, also where it is a field of a record; any other name is a definition, save that of a few facts, as refusal_is.
 pub mod Limits
 pub mod Bytes
 pub mod Names
