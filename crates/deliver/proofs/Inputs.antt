@@ -2,7 +2,8 @@
 use mathlib.Core.Path.{◌≡◌, refl, sym, ◌∙◌}
 use mathlib.Core.Bool.{Bool, true, false, cond}
 use mathlib.Core.List.{List, [], ◌∷◌, ◌++◌}
-use mathlib.Core.Option.{Option, none}
+use mathlib.Core.Option.{none}
+use mathlib.Core.Option as math
 use Prim.Native.Nat.{ℕ, ◌+◌, ◌-◌, ◌≤◌, ◌<◌}
 use native.Mathlib.Omega.{arith}
 use borrow.Author.Tests.{le-leb, lt-leb, leb-true}
@@ -19,8 +20,8 @@ use Rattle.meaning.specs.Entries.{◌and_then◌}
 use Rattle.meaning.specs.Deliveries.{decimal, row_line, header, within_limit, printed, parted, output, deliveries}
 use Rattle.buffer.specs.Splice.{splice}
 use Rattle.text.proofs.Rests.{rest_part}
+use Rattle.std.specs.Prelude.{Option, Some, None}
 use Rattle.number.specs.declared.Number.{Number}
-use Rattle.number.specs.declared.Number.TheVariants.{Is, Malformed}
 use Rattle.number.specs.Reading.{number_at}
 use Rattle.number.proofs.Answers.{number-stands, number-none}
 use Rattle.parse.proofs.Parts.{part_of}
@@ -63,27 +64,27 @@ module _ (s : Text) where
   input-long h = refusal (deliveries s) 12 (twelve h)
 
   -- within it
-  module _ (h : length s ≤ program_bytes) (a : Number) (e : a ≡ number_at s 0) where
-    thirteen : a ≡ Malformed → deliveries s ≡ output (refused 13 none)
+  module _ (h : length s ≤ program_bytes) (a : Option Number) (e : a ≡ number_at s 0) where
+    thirteen : a ≡ None → deliveries s ≡ output (refused 13 none)
     unfolding deliveries read_text
     thirteen f = rw (le-leb (length s) program_bytes h, number-none s 0 (sym e ∙ f))
 
-    pub number-malformed : a ≡ Malformed → (d o : Text) (r : ℕ) → o ≡ splice d 0 (output (refused 13 none)) → r ≡ length (output (refused 13 none)) → Prints (deliveries s) d o r
+    pub number-malformed : a ≡ None → (d o : Text) (r : ℕ) → o ≡ splice d 0 (output (refused 13 none)) → r ≡ length (output (refused 13 none)) → Prints (deliveries s) d o r
     number-malformed f = refusal (deliveries s) 13 (thirteen f)
 
-    module _ (n next : ℕ) (f : a ≡ Is n next) where
-      pub number-within : next ≤ length s
-      number-within = (number-stands s 0 n next (sym e ∙ f)).within
+    module _ (x : Number) (f : a ≡ Some x) where
+      pub number-within : x.next ≤ length s
+      number-within = (number-stands s 0 x (sym e ∙ f)).within
 
-      after : deliveries s ≡ output (parted (read_bytes n (drop next s)))
+      after : deliveries s ≡ output (parted (read_bytes x.value (drop x.next s)))
       unfolding deliveries read_text
-      after = rw (le-leb (length s) program_bytes h, (number-stands s 0 n next (sym e ∙ f)).reads)
+      after = rw (le-leb (length s) program_bytes h, (number-stands s 0 x (sym e ∙ f)).reads)
 
-      pub number-parts : (d o : Text) (r : ℕ) → Prints (output (parted (read_bytes n (drop next s)))) d o r → Prints (deliveries s) d o r
-      number-parts = prints-as (deliveries s) (output (parted (read_bytes n (drop next s)))) after
+      pub number-parts : (d o : Text) (r : ℕ) → Prints (output (parted (read_bytes x.value (drop x.next s)))) d o r → Prints (deliveries s) d o r
+      number-parts = prints-as (deliveries s) (output (parted (read_bytes x.value (drop x.next s)))) after
 
 -- no more is printed than the limit
-refusal-short : (n : ℕ) (r : Option ℕ) → length (output (refused n r)) ≤ program_bytes
+refusal-short : (n : ℕ) (r : math.Option ℕ) → length (output (refused n r)) ≤ program_bytes
 refusal-short n r = omega (arith, decimal-few n, length-append (bytes "refused ") (decimal n ++ (10 ∷ [])), length-append (decimal n) (10 ∷ []))
 
 limit-short : (t : Text) → length (output (within_limit t)) ≤ program_bytes

@@ -52,7 +52,7 @@ pub fn deliver(input: &[u8], rows: &mut [u8], out: &mut [u8]) -> usize
         return put_refusal(out, 12);
     }
     match number::read(input, 0) {
-        Number::Is { value, next } => print_parts(input, next, value, rows, out),
-        Number::Malformed => put_refusal(out, 13),
+        Some(Number { value, next }) => print_parts(input, next, value, rows, out),
+        None => put_refusal(out, 13),
     }
 }

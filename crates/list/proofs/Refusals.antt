@@ -13,8 +13,8 @@ use Rattle.meaning.specs.Spec.{Answer, accepted, refused, spec_refusal, spec_of,
 use Rattle.meaning.specs.Number.{Step, took, no, Reader, step_then, ◌>>=◌, give, need, read_number, read_bytes, read_text}
 use Rattle.meaning.specs.Lists.{with_first, record_then, records_from, answered, read_list, spec_record, item_record, read_specs, read_items}
 use Rattle.meaning.specs.Rows.{destination_after, read_destination, read_front, read_row, row_passes, row_record, read_rows}
+use Rattle.std.specs.Prelude as std
 use Rattle.number.specs.declared.Number.{Number}
-use Rattle.number.specs.declared.Number.TheVariants.{Is, Malformed}
 use Rattle.number.specs.Reading.{number_at}
 use Rattle.number.proofs.Answers.{number-stands, number-none}
 
@@ -45,11 +45,11 @@ module _ {A : Type 0} where
 positive-number : Positive read_number
 positive-number s n e = go (number_at s 0) refl
   where
-    go : (a : Number) → number_at s 0 ≡ a → 0 < n
-    go (Is v next) f =
-        let q : no n ≡ took v (drop next s) = sym e ∙ (number-stands s 0 v next f).reads in
+    go : (a : std.Option Number) → number_at s 0 ≡ a → 0 < n
+    go (std.Some x) f =
+        let q : no n ≡ took x.value (drop x.next s) = sym e ∙ (number-stands s 0 x f).reads in
         absurd (let z : ◌≡◌ {A = ℕ} 0 1 = cc in omega arith)
-    go Malformed f = let q : no n ≡ no 13 = sym e ∙ number-none s 0 f in let i : n ≡ 13 = cc in omega arith
+    go std.None f = let q : no n ≡ no 13 = sym e ∙ number-none s 0 f in let i : n ≡ 13 = cc in omega arith
 
 positive-bytes : (k : ℕ) → Positive (read_bytes k)
 unfolding read_bytes

@@ -16,8 +16,8 @@ use Rattle.meaning.specs.Lists.{item_record, read_items}
 use Rattle.promises.specs.Facts.{records}
 use Rattle.promises.proofs.Members.{names-count}
 use Rattle.promises.proofs.Steps.{items-shrink}
+use Rattle.std.specs.Prelude.{Option, Some, None}
 use Rattle.number.specs.declared.Number.{Number}
-use Rattle.number.specs.declared.Number.TheVariants.{Is, Malformed}
 use Rattle.number.specs.Reading.{number_at}
 use Rattle.list.specs.declared.cursor.Cursor.{Cursor}
 use Rattle.list.specs.declared.cursor.Step.{Step}
@@ -45,13 +45,13 @@ step-reads : (s : Text) (at : ℕ) → at < length s → step_at s at ≡ placed
 unfolding step_at
 step-reads s at h = rw (lt-ltb at (length s) h)
 
-pub step-number : (s : Text) (at n start : ℕ) (a : Number) (r : Step) → at < length s → a ≡ number_at s at → a ≡ Is n start → r ≡ placed_step s (meaning.read_bytes n (drop start s)) → r ≡ step_at s at
-step-number s at n start a r h e f g = g ∙ sym (ap (placed_step s) (text-from s at n start (sym e ∙ f))) ∙ sym (step-reads s at h)
+pub step-number : (s : Text) (at : ℕ) (x : Number) (a : Option Number) (r : Step) → at < length s → a ≡ number_at s at → a ≡ Some x → r ≡ placed_step s (meaning.read_bytes x.value (drop x.next s)) → r ≡ step_at s at
+step-number s at x a r h e f g = g ∙ sym (ap (placed_step s) (text-from s at x (sym e ∙ f))) ∙ sym (step-reads s at h)
 
-pub step-starts : (s : Text) (at n start : ℕ) (a : Number) → a ≡ number_at s at → a ≡ Is n start → start ≤ length s
-step-starts s at n start a e f = number-within s at n start (sym e ∙ f)
+pub step-starts : (s : Text) (at : ℕ) (x : Number) (a : Option Number) → a ≡ number_at s at → a ≡ Some x → x.next ≤ length s
+step-starts s at x a e f = number-within s at x (sym e ∙ f)
 
-pub step-none : (s : Text) (at : ℕ) (a : Number) → at < length s → a ≡ number_at s at → a ≡ Malformed → Refused 13 ≡ step_at s at
+pub step-none : (s : Text) (at : ℕ) (a : Option Number) → at < length s → a ≡ number_at s at → a ≡ None → Refused 13 ≡ step_at s at
 step-none s at a h e f = sym (ap (placed_step s) (text-none s at (sym e ∙ f))) ∙ sym (step-reads s at h)
 
 -- a record that a cursor at `at` hands back: its bytes stand in the list from `start` on, and the next record begins where they end

@@ -9,8 +9,8 @@ use lib.ListN.{length, take, drop, length-drop}
 use lib.Seq.{drop-drop}
 use Rattle.meaning.specs.Bytes.{Text}
 use Rattle.meaning.specs.Number as meaning
+use Rattle.std.specs.Prelude.{Option, Some, None}
 use Rattle.number.specs.declared.Number.{Number}
-use Rattle.number.specs.declared.Number.TheVariants.{Is, Malformed}
 use Rattle.number.specs.Reading.{number_at}
 use Rattle.number.proofs.Answers.{number-stands, number-none}
 use Rattle.parse.proofs.Parts.{part_length}
@@ -40,18 +40,18 @@ placed-bytes s at n h =
     rw (e, p, part_length s at n h, q)
 
 -- a number read before a text
-module _ (s : Text) (at n start : ℕ) (e : number_at s at ≡ Is n start) where
+module _ (s : Text) (at : ℕ) (x : Number) (e : number_at s at ≡ Some x) where
   -- the text is read on from its end
-  pub text-from : meaning.read_text (drop at s) ≡ meaning.read_bytes n (drop start s)
+  pub text-from : meaning.read_text (drop at s) ≡ meaning.read_bytes x.value (drop x.next s)
   unfolding meaning.read_text
-  text-from = rw (number-stands s at n start e).reads
+  text-from = rw (number-stands s at x e).reads
 
   -- which is within the list
-  pub number-within : start ≤ length s
-  number-within = (number-stands s at n start e).within
+  pub number-within : x.next ≤ length s
+  number-within = (number-stands s at x e).within
 
 -- no text without a number
-pub text-none : (s : Text) (at : ℕ) → number_at s at ≡ Malformed → meaning.read_text (drop at s) ≡ meaning.no 13
+pub text-none : (s : Text) (at : ℕ) → number_at s at ≡ None → meaning.read_text (drop at s) ≡ meaning.no 13
 unfolding meaning.read_text
 text-none s at e = rw (number-none s at e)
 
@@ -64,15 +64,15 @@ pub data TextAt (s : Text) (at : ℕ) : Type 0 where
 pub text_at_lem : (s : Text) (at : ℕ) → TextAt s at
 text_at_lem s at = go (number_at s at) refl
   where
-    ends : (n start : ℕ) → number_at s at ≡ Is n start → (b : Bool) → leb (start + n) (length s) ≡ b → TextAt s at
-    ends n start e true h =
-        let k = leb-true (start + n) (length s) h in
-        stands start n (number-stands s at n start e).from k (text-from s at n start e ∙ bytes-taken s start n k)
-    ends n start e false h =
-        let k = leb-false (start + n) (length s) h in
-        let w = number-within s at n start e in
-        malformed (text-from s at n start e ∙ bytes-short s start n (omega arith))
+    ends : (x : Number) → number_at s at ≡ Some x → (b : Bool) → leb (x.next + x.value) (length s) ≡ b → TextAt s at
+    ends x e true h =
+        let k = leb-true (x.next + x.value) (length s) h in
+        stands x.next x.value (number-stands s at x e).from k (text-from s at x e ∙ bytes-taken s x.next x.value k)
+    ends x e false h =
+        let k = leb-false (x.next + x.value) (length s) h in
+        let w = number-within s at x e in
+        malformed (text-from s at x e ∙ bytes-short s x.next x.value (omega arith))
 
-    go : (a : Number) → number_at s at ≡ a → TextAt s at
-    go (Is n start) e = ends n start e (leb (start + n) (length s)) refl
-    go Malformed e = malformed (text-none s at e)
+    go : (a : Option Number) → number_at s at ≡ a → TextAt s at
+    go (Some x) e = ends x e (leb (x.next + x.value) (length s)) refl
+    go None e = malformed (text-none s at e)

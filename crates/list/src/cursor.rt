@@ -55,8 +55,8 @@ impl Cursor {
             return Step::End;
         }
         match number::read(list, at) {
-            Number::Is { value, next } => record_at(list, next, value),
-            Number::Malformed => Step::Refused(13),
+            Some(Number { value, next }) => record_at(list, next, value),
+            None => Step::Refused(13),
         }
     }
 }

@@ -10,14 +10,16 @@ use lib.Seq.{drop-drop}
 use Rattle.meaning.specs.Bytes.{Text}
 use Rattle.meaning.specs.Limits.{number_groups}
 use Rattle.meaning.specs.Number.{Step, took, no, step_then, group_before, read_groups, read_number}
-use Rattle.number.specs.declared.Number.TheVariants.{Is, Malformed}
+use Rattle.number.specs.declared.Number.{Number}
 use Rattle.number.specs.Reading.{number_placed, number_at}
+use Rattle.std.specs.Prelude.{Option, Some, None}
+use Rattle.std.specs.Option.{option_map_or}
 
 -- a number that was read: its bytes stand from `at` to `next`
-pub record Stands (s : Text) (at n next : ℕ) : Type 0 where
-  pub from : at < next
-  pub within : next ≤ length s
-  pub reads : read_number (drop at s) ≡ took n (drop next s)
+pub record Stands (s : Text) (at : ℕ) (x : Number) : Type 0 where
+  pub from : at < x.next
+  pub within : x.next ≤ length s
+  pub reads : read_number (drop at s) ≡ took x.value (drop x.next s)
 
 -- reading leaves the bytes after some of the first
 record Leaves (t rest : Text) : Type 0 where
@@ -73,29 +75,36 @@ refuses (suc k) (b ∷ t) j e = go (refuses k t) (ltb b 128) e
     go h true g = none-taken j b t (sym g)
     go h false g = step h (read_groups k t) refl g
 
+-- the parts of a number that was answered
+abbrev value_or0 : Option Number → ℕ
+value_or0 o = option_map_or (λ (x : Number). x.value) o 0
+
+abbrev next_or0 : Option Number → ℕ
+next_or0 o = option_map_or (λ (x : Number). x.next) o 0
+
 -- where a number is answered, it stands there
-pub number-stands : (s : Text) (at n next : ℕ) → number_at s at ≡ Is n next → Stands s at n next
+pub number-stands : (s : Text) (at : ℕ) (x : Number) → number_at s at ≡ Some x → Stands s at x
 unfolding number_at read_number
-number-stands s at n next e = go (read_groups number_groups (drop at s)) refl e
+number-stands s at x e = go (read_groups number_groups (drop at s)) refl e
   where
-    go : (a : Step ℕ) → read_groups number_groups (drop at s) ≡ a → number_placed s a ≡ Is n next → Stands s at n next
+    go : (a : Step ℕ) → read_groups number_groups (drop at s) ≡ a → number_placed s a ≡ Some x → Stands s at x
     go (no j) f g = absurd (let z : ◌≡◌ {A = ℕ} 0 1 = cc in omega arith)
     go (took m rest) f g =
-        let p : m ≡ n = cc in
-        let q : length s - length rest ≡ next = cc in
+        let p : m ≡ x.value = ap value_or0 g in
+        let q : length s - length rest ≡ x.next = ap next_or0 g in
         let l = leaves number_groups (drop at s) m rest f in
         let r : rest ≡ drop (at + l.passed) s = l.left ∙ drop-drop l.passed at s in
         let few : l.passed ≤ length s - at = rw (length-drop at s) at l.few in
         let len : length rest ≡ length s - (at + l.passed) = ap length r ∙ length-drop (at + l.passed) s in
         let some : 0 < l.passed = l.some in
-        let here : next ≡ at + l.passed = omega arith in
+        let here : x.next ≡ at + l.passed = omega arith in
         record { from = omega arith; within = omega arith; reads = rw (here, ← p, ← r) f }
 
 -- where none is, reading refuses
-pub number-none : (s : Text) (at : ℕ) → number_at s at ≡ Malformed → read_number (drop at s) ≡ no 13
+pub number-none : (s : Text) (at : ℕ) → number_at s at ≡ None → read_number (drop at s) ≡ no 13
 unfolding number_at read_number
 number-none s at e = go (read_groups number_groups (drop at s)) refl e
   where
-    go : (a : Step ℕ) → read_groups number_groups (drop at s) ≡ a → number_placed s a ≡ Malformed → read_groups number_groups (drop at s) ≡ no 13
+    go : (a : Step ℕ) → read_groups number_groups (drop at s) ≡ a → number_placed s a ≡ None → read_groups number_groups (drop at s) ≡ no 13
     go (took m rest) f g = absurd (let z : ◌≡◌ {A = ℕ} 0 1 = cc in omega arith)
     go (no j) f g = f ∙ ap (λ (i : ℕ). no i) (refuses number_groups (drop at s) j f)

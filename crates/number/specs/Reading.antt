@@ -1,26 +1,29 @@
 -- What the functions answer: a number that stands at a place of a byte string.
-use Rattle.std.specs.Prelude.{ℕ, ◌-◌, ◌<◌, length, get_or, drop}
+use Rattle.std.specs.Prelude.{ℕ, ◌-◌, ◌<◌, Option, Some, None, length, get_or, drop}
 use Rattle.meaning.specs.Bytes.{Text}
 use Rattle.meaning.specs.Limits.{number_groups}
 use Rattle.meaning.specs.Number.{Step, took, no, Reader, ◌>>=◌, group_before, read_groups, read_number}
 use Rattle.number.specs.declared.Number.{Number}
-use Rattle.number.specs.declared.Number.TheVariants.{Is, Malformed}
 
 -- every byte is below 256, as in every slice of bytes
 abbrev pub Octets : Text → Type 0
 Octets s = (i : ℕ) → get_or s i 0 < 256
 
+-- a number with the place of what follows it
+abbrev pub number_is : ℕ → ℕ → Option Number
+number_is n rest = Some (record { value = n; next = rest })
+
 -- a step's answer as a place of s: a value with the place of what is left
-abbrev pub number_placed : Text → Step ℕ → Number
-number_placed s (took n rest) = Is n (length s - length rest)
-number_placed s (no k) = Malformed
+abbrev pub number_placed : Text → Step ℕ → Option Number
+number_placed s (took n rest) = number_is n (length s - length rest)
+number_placed s (no k) = None
 
 -- what a reader finds at a place of s
-abbrev pub found_at : Reader ℕ → Text → ℕ → Number
+abbrev pub found_at : Reader ℕ → Text → ℕ → Option Number
 found_at r s at = number_placed s (r (drop at s))
 
 -- the number at a place of s
-unfoldable pub number_at : Text → ℕ → Number
+unfoldable pub number_at : Text → ℕ → Option Number
 number_at s at = found_at read_number s at
 
 -- a number read on after its first group a

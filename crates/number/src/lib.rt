@@ -9,77 +9,58 @@ ghost use Rattle.number.specs.Reading.{found_at, number_at, after_one, after_two
 
 use limits::NUMBER_GROUPS;
 
-// A number that was read, with the place of what follows it, or that none is well formed there.
-#[derive(Clone, Copy)]
-pub enum Number {
-    Is { value: usize, next: usize },
-    Malformed,
+// A number that was read, with the place of what follows it.
+#[derive(Clone, Copy, Debug, PartialEq, Eq)]
+pub struct Number {
+    pub value: usize,
+    pub next: usize,
 }
 
-// A byte as a number.
-fn wide(b: u8) -> usize
-    ensures { (result ≡ b) × (result < 256) }
-{
-    b as usize
-}
-
-// The number that starts at `at`.
-pub fn read(s: &[u8], at: usize) -> Number
+// The number that starts at `at`, if one is well formed there.
+pub fn read(s: &[u8], at: usize) -> Option<Number>
     ensures { result ≡ number_at s.now at }
 {
-    if s.len() <= at {
-        return Number::Malformed;
-    }
-    let a = wide(s[at]);
+    let a = usize::from(*s.get(at)?);
     if a < 128 {
-        return Number::Is {
+        return Some(Number {
             value: a,
             next: at + 1,
-        };
+        });
     }
     read_second(s, at + 1, a)
 }
 
 // The number whose first group is `a`, read on from its second, at `i`.
-fn read_second(s: &[u8], i: usize, a: usize) -> Number
+fn read_second(s: &[u8], i: usize, a: usize) -> Option<Number>
     requires { (128 ≤ a) × (a < 256) }
     ensures { result ≡ found_at (after_one a) s.now i }
 {
-    if s.len() <= i {
-        return Number::Malformed;
-    }
-    let b = wide(s[i]);
+    let b = usize::from(*s.get(i)?);
     if b == 0 {
-        return Number::Malformed;
+        return None;
     }
     if b < 128 {
-        return Number::Is {
+        return Some(Number {
             value: a - 128 + b * 128,
             next: i + 1,
-        };
+        });
     }
     read_third(s, i + 1, a, b)
 }
 
 // The number whose first groups are `a` and `b`, read on from its third, at `j`, which is the last.
-fn read_third(s: &[u8], j: usize, a: usize, b: usize) -> Number
+fn read_third(s: &[u8], j: usize, a: usize, b: usize) -> Option<Number>
     requires { (128 ≤ a) × (a < 256) × (128 ≤ b) × (b < 256) }
     ensures { result ≡ found_at (after_two a b) s.now j }
 {
-    if s.len() <= j {
-        return Number::Malformed;
+    let c = usize::from(*s.get(j)?);
+    if c == 0 || 128 <= c {
+        return None;
     }
-    let c = wide(s[j]);
-    if c == 0 {
-        return Number::Malformed;
-    }
-    if 128 <= c {
-        return Number::Malformed;
-    }
-    Number::Is {
+    Some(Number {
         value: a - 128 + (b - 128 + c * 128) * 128,
         next: j + 1,
-    }
+    })
 }
 
 // Numbers below it take at most two groups.

@@ -11,7 +11,7 @@ use lib.ListN.{length, get_or, take, drop, take-append-drop, length-append, leng
 use lib.Seq.{drop-drop, take_at, drop_at}
 use Rattle.meaning.specs.Bytes.{Text, bytes, same}
 use Rattle.meaning.specs.Spec.{accepted, refused, Spec, read_spec}
-use Rattle.meaning.specs.Instruction.{instruction, canonical_text}
+use Rattle.meaning.specs.Instruction.{canonical_text}
 use Rattle.meaning.specs.Prefix.{name_prefix, prefix, prefix_of, expand_prefixes}
 use Rattle.promises.proofs.Laws.{same-is, same_refl}
 use Rattle.text.proofs.Rests.{rest-cons, rest_part}

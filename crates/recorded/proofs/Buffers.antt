@@ -1,7 +1,7 @@
 -- What a call on one spec has written, where it tells no refusal; and that its texts are short enough for the buffer. Assumes nothing.
 use Prim.Native.Nat.{ℕ, ◌+◌, ◌*◌, ◌≤◌, ◌<◌}
 use native.Mathlib.Omega.{arith}
-use mathlib.Core.Path.{◌≡◌, refl, sym, ap, ◌∙◌}
+use mathlib.Core.Path.{◌≡◌, refl, sym, ◌∙◌}
 use mathlib.Core.Bool.{Bool, true, false, cond}
 use mathlib.Core.List.{List, [], ◌∷◌, ◌++◌}
 use mathlib.Core.Option.{Option, none, some}
@@ -9,7 +9,7 @@ use borrow.Author.Tests.{leb-false}
 use lib.Dec.{leb}
 use lib.ListN.{length, take, drop, length-append}
 use lib.Seq.{take_at, length-take-le}
-use Rattle.meaning.specs.Bytes.{Text, bytes, slash, begins, has_byte, after, or_empty, object_id, each}
+use Rattle.meaning.specs.Bytes.{Text, bytes, slash, begins, has_byte, after, or_empty, object_id}
 use Rattle.meaning.specs.Limits.{spec_bytes, largest_number, number_groups}
 use Rattle.meaning.specs.Number.{number_bytes, text_bytes, record_bytes}
 use Rattle.meaning.specs.Spec.{Answer, accepted, refused, Spec, read_spec, is_negative, push}

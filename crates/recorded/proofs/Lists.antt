@@ -14,8 +14,8 @@ use Rattle.promises.proofs.Laws.{each_append}
 use Rattle.promises.proofs.Reading.{read-text, number-long}
 use Rattle.promises.proofs.Spelling.{bytes-spelled}
 use Rattle.text.proofs.Rests.{rest-cons}
+use Rattle.std.specs.Prelude.{Option, Some, None}
 use Rattle.number.specs.declared.Number.{Number}
-use Rattle.number.specs.declared.Number.TheVariants.{Is, Malformed}
 use Rattle.number.specs.Reading.{number_at}
 use Rattle.number.proofs.Answers.{number-stands, number-none}
 use Rattle.parse.proofs.Parts.{part_of}
@@ -46,34 +46,34 @@ module _ (s : Text) (at : ℕ) (list : Text) (from n : ℕ) where
     pub passed-other : r ≡ Differs → PassedText s at list from n passed.Differs
     passed-other q g = missed s at (sized (take n (drop from list))) (sym q ∙ part)
 
-module _ (list : Text) (at : ℕ) (q : Number) (eq : q ≡ number_at list at) where
+module _ (list : Text) (at : ℕ) (q : Option Number) (eq : q ≡ number_at list at) where
   -- no number, no record
-  pub passed-malformed : (s : Text) (next : ℕ) → q ≡ Malformed → PassedRecord s next list at passed.Differs
+  pub passed-malformed : (s : Text) (next : ℕ) → q ≡ None → PassedRecord s next list at passed.Differs
   unfolding read_text
   passed-malformed s next is text rest e =
       let f : no 13 ≡ took text rest = rw (number-none list at (sym eq ∙ is)) at e in
       absurd (let z : ◌≡◌ {A = ℕ} 0 1 = cc in omega arith)
 
-  module _ (n from : ℕ) (is : q ≡ Is n from) where
+  module _ (x : Number) (is : q ≡ Some x) where
     -- a number ends within its list
-    pub number-within : from ≤ length list
-    number-within = (number-stands list at n from (sym eq ∙ is)).within
+    pub number-within : x.next ≤ length list
+    number-within = (number-stands list at x (sym eq ∙ is)).within
 
-    reads : read_number (drop at list) ≡ took n (drop from list)
-    reads = (number-stands list at n from (sym eq ∙ is)).reads
+    reads : read_number (drop at list) ≡ took x.value (drop x.next list)
+    reads = (number-stands list at x (sym eq ∙ is)).reads
 
     -- a text after its length is a record of the list
-    pub passed-record : (s : Text) (next : ℕ) (r : Passed) → PassedText s next list from n r → PassedRecord s next list at r
+    pub passed-record : (s : Text) (next : ℕ) (r : Passed) → PassedText s next list x.next x.value r → PassedRecord s next list at r
     unfolding read_text read_bytes
     passed-record s next (passed.To m end) b =
-        let room : n ≤ length (drop from list) = omega (arith, length-drop from list, b.within, b.ends) in
-        let rest : drop n (drop from list) ≡ drop end list = drop-drop n from list ∙ ap (λ (k : ℕ). drop k list) (sym b.ends) in
-        record { text = take n (drop from list); reads = rw (reads, le-leb n (length (drop from list)) room, rest); stands = b.stands; within = b.within }
+        let room : x.value ≤ length (drop x.next list) = omega (arith, length-drop x.next list, b.within, b.ends) in
+        let rest : drop x.value (drop x.next list) ≡ drop end list = drop-drop x.value x.next list ∙ ap (λ (k : ℕ). drop k list) (sym b.ends) in
+        record { text = take x.value (drop x.next list); reads = rw (reads, le-leb x.value (length (drop x.next list)) room, rest); stands = b.stands; within = b.within }
     passed-record s next passed.Differs b = λ text rest e.
-        let f : read_bytes n (drop from list) ≡ took text rest = rw reads at e in
-        let g = bytes-spelled n (drop from list) text rest f in
-        let l : from + n ≤ length list = omega (arith, ap length g.0, length-append text rest, g.1, length-drop from list, number-within) in
-        let t : take n (drop from list) ≡ text = rw g.0 (take_at text rest n g.1) in
+        let f : read_bytes x.value (drop x.next list) ≡ took text rest = rw reads at e in
+        let g = bytes-spelled x.value (drop x.next list) text rest f in
+        let l : x.next + x.value ≤ length list = omega (arith, ap length g.0, length-append text rest, g.1, length-drop x.next list, number-within) in
+        let t : take x.value (drop x.next list) ≡ text = rw g.0 (take_at text rest x.value g.1) in
         rw t at (b l)
 
 -- the first k texts of the list stand in the record, and the others follow in the list

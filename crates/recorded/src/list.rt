@@ -37,8 +37,8 @@ fn prefix_passes(told: &[u8], next: usize, list: &[u8], at: usize) -> Passed
     ensures { PassedRecord told.now next list.now at result }
 {
     match number::read(list, at) {
-        Number::Is { value, next: from } => prefix_at(told, next, list, from, value),
-        Number::Malformed => Passed::Differs,
+        Some(Number { value, next: from }) => prefix_at(told, next, list, from, value),
+        None => Passed::Differs,
     }
 }
 

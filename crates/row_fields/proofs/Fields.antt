@@ -11,8 +11,8 @@ use Rattle.meaning.specs.Bytes.{Text}
 use Rattle.meaning.specs.Limits.{largest_number}
 use Rattle.meaning.specs.Number as meaning
 use Rattle.meaning.specs.Rows as rows
+use Rattle.std.specs.Prelude.{Option, Some, None}
 use Rattle.number.specs.declared.Number.{Number}
-use Rattle.number.specs.declared.Number.TheVariants.{Is, Malformed}
 use Rattle.number.specs.Reading.{Octets, number_at}
 use Rattle.number.proofs.Answers.{number-stands, number-none}
 use Rattle.number.proofs.Round.{octets-of, read_only, read_small}
@@ -51,70 +51,70 @@ module _ (s : Text) (at n : ℕ) (inside : at ≤ length s) (room : length (mean
       }
 
 -- a number at a place
-module _ (s : Text) (at : ℕ) (a : Number) (ea : a ≡ number_at s at) where
-  pub number-within : (n next : ℕ) → a ≡ Is n next → next ≤ length s
-  number-within n next e = (number-stands s at n next (sym ea ∙ e)).within
+module _ (s : Text) (at : ℕ) (a : Option Number) (ea : a ≡ number_at s at) where
+  pub number-within : (x : Number) → a ≡ Some x → x.next ≤ length s
+  number-within x e = (number-stands s at x (sym ea ∙ e)).within
 
-  module _ (bytes : (i : ℕ) → Fits w8 (get_or s i 0)) (n next : ℕ) (e : a ≡ Is n next) where
+  module _ (bytes : (i : ℕ) → Fits w8 (get_or s i 0)) (x : Number) (e : a ≡ Some x) where
     octets : Octets (drop at s)
     octets i = rw (get_or-drop at s i 0) (octets-of s bytes (at + i))
 
-    pub small-number : n ≤ largest_number
-    small-number = read_small (drop at s) n (drop next s) octets (number-stands s at n next (sym ea ∙ e)).reads
+    pub small-number : x.value ≤ largest_number
+    small-number = read_small (drop at s) x.value (drop x.next s) octets (number-stands s at x (sym ea ∙ e)).reads
 
     -- its bytes are as many as were read
-    spelled : at + length (meaning.number_bytes n) ≡ next
+    spelled : at + length (meaning.number_bytes x.value) ≡ x.next
     spelled =
-        let w = number-stands s at n next (sym ea ∙ e) in
-        let q : drop at s ≡ meaning.number_bytes n ++ drop next s = read_only (drop at s) n (drop next s) octets w.reads in
-        let l : length s - at ≡ length (meaning.number_bytes n) + (length s - next) = rw (← length-drop at s, ← length-drop next s) (ap length q ∙ length-append (meaning.number_bytes n) (drop next s)) in
+        let w = number-stands s at x (sym ea ∙ e) in
+        let q : drop at s ≡ meaning.number_bytes x.value ++ drop x.next s = read_only (drop at s) x.value (drop x.next s) octets w.reads in
+        let l : length s - at ≡ length (meaning.number_bytes x.value) + (length s - x.next) = rw (← length-drop at s, ← length-drop x.next s) (ap length q ∙ length-append (meaning.number_bytes x.value) (drop x.next s)) in
         omega (arith, w.from, w.within)
 
-    pub number-room : length (meaning.number_bytes n) ≤ next
+    pub number-room : length (meaning.number_bytes x.value) ≤ x.next
     number-room = omega (arith, spelled)
 
     -- the answers of `read_destination`
-    pub destination-next : (r : Destination) → DestinationSays s (next - length (meaning.number_bytes n)) (rows.destination_after n (drop next s)) r → DestinationSays s at (rows.read_destination (drop at s)) r
+    pub destination-next : (r : Destination) → DestinationSays s (x.next - length (meaning.number_bytes x.value)) (rows.destination_after x.value (drop x.next s)) r → DestinationSays s at (rows.read_destination (drop at s)) r
     unfolding rows.read_destination
     destination-next r h =
-        let f : next - length (meaning.number_bytes n) ≡ at = omega (arith, spelled) in
-        rw ((number-stands s at n next (sym ea ∙ e)).reads, ← f) h
+        let f : x.next - length (meaning.number_bytes x.value) ≡ at = omega (arith, spelled) in
+        rw ((number-stands s at x (sym ea ∙ e)).reads, ← f) h
 
-  pub destination-stop : a ≡ Malformed → DestinationSays s at (rows.read_destination (drop at s)) destination.Malformed
+  pub destination-stop : a ≡ None → DestinationSays s at (rows.read_destination (drop at s)) destination.Malformed
   unfolding rows.read_destination
   destination-stop e = rw (number-none s at (sym ea ∙ e))
 
   -- what is read on after it
-  number-next : (g : ℕ → meaning.Reader rows.Row) (n next : ℕ) (r : Front) → a ≡ Is n next → FrontSays s (g n (drop next s)) r → FrontSays s (meaning.step_then (meaning.read_number (drop at s)) g) r
-  number-next g n next r e h = rw (number-stands s at n next (sym ea ∙ e)).reads h
+  number-next : (g : ℕ → meaning.Reader rows.Row) (x : Number) (r : Front) → a ≡ Some x → FrontSays s (g x.value (drop x.next s)) r → FrontSays s (meaning.step_then (meaning.read_number (drop at s)) g) r
+  number-next g x r e h = rw (number-stands s at x (sym ea ∙ e)).reads h
 
-  number-stop : (g : ℕ → meaning.Reader rows.Row) → a ≡ Malformed → FrontSays s (meaning.step_then (meaning.read_number (drop at s)) g) front.Malformed
+  number-stop : (g : ℕ → meaning.Reader rows.Row) → a ≡ None → FrontSays s (meaning.step_then (meaning.read_number (drop at s)) g) front.Malformed
   number-stop g e = rw (number-none s at (sym ea ∙ e))
 
   -- the answers of `after_spec`
-  pub kind-next : (i sp n next : ℕ) (r : Front) → a ≡ Is n next → FrontSays s (after_kind i sp n (drop next s)) r → FrontSays s (after_spec i sp (drop at s)) r
+  pub kind-next : (i sp : ℕ) (x : Number) (r : Front) → a ≡ Some x → FrontSays s (after_kind i sp x.value (drop x.next s)) r → FrontSays s (after_spec i sp (drop at s)) r
   unfolding after_spec
   kind-next i sp = number-next (after_kind i sp)
 
-  pub kind-stop : (i sp : ℕ) → a ≡ Malformed → FrontSays s (after_spec i sp (drop at s)) front.Malformed
+  pub kind-stop : (i sp : ℕ) → a ≡ None → FrontSays s (after_spec i sp (drop at s)) front.Malformed
   unfolding after_spec
   kind-stop i sp = number-stop (after_kind i sp)
 
   -- the answers of `after_item`
-  pub spec-next : (i n next : ℕ) (r : Front) → a ≡ Is n next → FrontSays s (after_spec i n (drop next s)) r → FrontSays s (after_item i (drop at s)) r
+  pub spec-next : (i : ℕ) (x : Number) (r : Front) → a ≡ Some x → FrontSays s (after_spec i x.value (drop x.next s)) r → FrontSays s (after_item i (drop at s)) r
   unfolding after_item
   spec-next i = number-next (after_spec i)
 
-  pub spec-stop : (i : ℕ) → a ≡ Malformed → FrontSays s (after_item i (drop at s)) front.Malformed
+  pub spec-stop : (i : ℕ) → a ≡ None → FrontSays s (after_item i (drop at s)) front.Malformed
   unfolding after_item
   spec-stop i = number-stop (after_spec i)
 
   -- the answers of `read_front`
-  pub item-next : (n next : ℕ) (r : Front) → a ≡ Is n next → FrontSays s (after_item n (drop next s)) r → FrontSays s (rows.read_front (drop at s)) r
+  pub item-next : (x : Number) (r : Front) → a ≡ Some x → FrontSays s (after_item x.value (drop x.next s)) r → FrontSays s (rows.read_front (drop at s)) r
   unfolding rows.read_front after_item after_spec after_kind after_source
-  item-next n next r e h = rw (number-stands s at n next (sym ea ∙ e)).reads h
+  item-next x r e h = rw (number-stands s at x (sym ea ∙ e)).reads h
 
-  pub item-stop : a ≡ Malformed → FrontSays s (rows.read_front (drop at s)) front.Malformed
+  pub item-stop : a ≡ None → FrontSays s (rows.read_front (drop at s)) front.Malformed
   unfolding rows.read_front
   item-stop e = rw (number-none s at (sym ea ∙ e))
 

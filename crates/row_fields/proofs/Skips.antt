@@ -2,7 +2,7 @@
 -- nothing.
 use mathlib.Core.Path.{◌≡◌, refl, sym, ◌∙◌}
 use mathlib.Core.List.{[]}
-use mathlib.Core.Option.{Option}
+use mathlib.Core.Option as math
 use Prim.Native.Nat.{ℕ}
 use native.Mathlib.Nat.{le_refl}
 use native.Mathlib.Omega.{arith}
@@ -10,8 +10,8 @@ use lib.ListN.{length, drop, drop_of_length-le}
 use Rattle.meaning.specs.Bytes.{Text}
 use Rattle.meaning.specs.Number as meaning
 use Rattle.meaning.specs.Rows as rows
+use Rattle.std.specs.Prelude.{Option, Some, None}
 use Rattle.number.specs.declared.Number.{Number}
-use Rattle.number.specs.declared.Number.TheVariants.{Is, Malformed}
 use Rattle.number.specs.Reading.{number_at}
 use Rattle.number.proofs.Answers.{number-stands, number-none}
 use Rattle.list.specs.declared.cursor.Cursor.{Cursor}
@@ -43,11 +43,11 @@ unfolding rows.read_destination
 nothing-there = rw nothing-number
 
 -- the answers of `past_number`
-module _ (s : Text) (at : ℕ) (a : Number) (ea : a ≡ number_at s at) where
-  pub number_passed : (n next : ℕ) → a ≡ Is n next → drop next s ≡ left_after (meaning.read_number (drop at s))
-  number_passed n next e = rw (number-stands s at n next (sym ea ∙ e)).reads
+module _ (s : Text) (at : ℕ) (a : Option Number) (ea : a ≡ number_at s at) where
+  pub number_passed : (x : Number) → a ≡ Some x → drop x.next s ≡ left_after (meaning.read_number (drop at s))
+  number_passed x e = rw (number-stands s at x (sym ea ∙ e)).reads
 
-  pub number-ends : a ≡ Malformed → drop (length s) s ≡ left_after (meaning.read_number (drop at s))
+  pub number-ends : a ≡ None → drop (length s) s ≡ left_after (meaning.read_number (drop at s))
   number-ends e = rw (number-none s at (sym ea ∙ e)) (at-end s)
 
 -- the answers of `past_text`
@@ -90,7 +90,7 @@ found-source : (i sp k : ℕ) (src u : Text) → destination_in (after_source i 
 unfolding after_source
 found-source i sp k src u = go (rows.read_destination u)
   where
-    go : (w : meaning.Step (Option Text)) → destination_in (meaning.step_then w (λ dst. meaning.give (record { item = i; spec = sp; kind = k; source = src; destination = dst }))) ≡ destination_or w
+    go : (w : meaning.Step (math.Option Text)) → destination_in (meaning.step_then w (λ dst. meaning.give (record { item = i; spec = sp; kind = k; source = src; destination = dst }))) ≡ destination_or w
     go (meaning.took d rest) = refl
     go (meaning.no n) = refl
 

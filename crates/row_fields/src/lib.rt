@@ -66,8 +66,8 @@ fn read_destination(s: &[u8], at: usize) -> Destination
     ensures { DestinationSays s.now at (read_destination (drop at s.now)) result }
 {
     match number::read(s, at) {
-        Number::Is { value, next } => destination_after(s, next, value),
-        Number::Malformed => Destination::Malformed,
+        Some(Number { value, next }) => destination_after(s, next, value),
+        None => Destination::Malformed,
     }
 }
 
@@ -126,8 +126,8 @@ fn after_spec(s: &[u8], at: usize, item: usize, spec: usize) -> Front
     ensures { FrontSays s.now (after_spec item spec (drop at s.now)) result }
 {
     match number::read(s, at) {
-        Number::Is { value, next } => after_kind(s, next, item, spec, value),
-        Number::Malformed => Front::Malformed,
+        Some(Number { value, next }) => after_kind(s, next, item, spec, value),
+        None => Front::Malformed,
     }
 }
 
@@ -136,8 +136,8 @@ fn after_item(s: &[u8], at: usize, item: usize) -> Front
     ensures { FrontSays s.now (after_item item (drop at s.now)) result }
 {
     match number::read(s, at) {
-        Number::Is { value, next } => after_spec(s, next, item, value),
-        Number::Malformed => Front::Malformed,
+        Some(Number { value, next }) => after_spec(s, next, item, value),
+        None => Front::Malformed,
     }
 }
 
@@ -146,8 +146,8 @@ pub fn read_front(s: &[u8], at: usize) -> Front
     ensures { (result ≡ front_at s.now at) × FrontSays s.now (read_front (drop at s.now)) result }
 {
     match number::read(s, at) {
-        Number::Is { value, next } => after_item(s, next, value),
-        Number::Malformed => Front::Malformed,
+        Some(Number { value, next }) => after_item(s, next, value),
+        None => Front::Malformed,
     }
 }
 
@@ -156,8 +156,8 @@ fn past_number(s: &[u8], at: usize) -> usize
     ensures { drop result s.now ≡ left_after (read_number (drop at s.now)) }
 {
     match number::read(s, at) {
-        Number::Is { value: _, next } => next,
-        Number::Malformed => s.len(),
+        Some(Number { value: _, next }) => next,
+        None => s.len(),
     }
 }
 

@@ -170,8 +170,8 @@ fn show_value<W: Write>(to: &mut W, whole: bool, list: &[u8], at: usize, n: usiz
 // Prints the record at a place of a prefix list.
 fn show_record<W: Write>(to: &mut W, list: &[u8], so: Shown) -> Shown {
     match number::read(list, so.next) {
-        Number::Is { value, next } => show_value(to, so.whole, list, next, value),
-        Number::Malformed => Shown {
+        Some(Number { value, next }) => show_value(to, so.whole, list, next, value),
+        None => Shown {
             next: list.len(),
             whole: so.whole,
         },

@@ -9,8 +9,8 @@ returns-then-input-gt-PROGRAM_BYTES c = delivered _ _ _ _ (search input-long)
 pub print_parts-requires : goal.print_parts-requires
 print_parts-requires c = (search number-within, search rules)
 
-pub returns-in-Is : goal.returns-in-Is
-returns-in-Is c = delivered _ _ _ _ (search number-parts)
+pub returns-in-Some : goal.returns-in-Some
+returns-in-Some c = delivered _ _ _ _ (search number-parts)
 
-pub returns-in-Malformed : goal.returns-in-Malformed
-returns-in-Malformed c = delivered _ _ _ _ (search number-malformed)
+pub returns-in-None : goal.returns-in-None
+returns-in-None c = delivered _ _ _ _ (search number-malformed)

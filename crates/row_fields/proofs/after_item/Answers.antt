@@ -5,8 +5,8 @@ use Rattle.row_fields.proofs.after_item.Goals as goal
 pub after_spec-requires : goal.after_spec-requires
 after_spec-requires c = search small-number
 
-pub returns-in-Is : goal.returns-in-Is
-returns-in-Is c = search spec-next
+pub returns-in-Some : goal.returns-in-Some
+returns-in-Some c = search spec-next
 
-pub returns-in-Malformed : goal.returns-in-Malformed
-returns-in-Malformed c = search spec-stop
+pub returns-in-None : goal.returns-in-None
+returns-in-None c = search spec-stop

@@ -6,8 +6,8 @@ use Rattle.row_fields.proofs.after_spec.Goals as goal
 pub after_kind-requires : goal.after_kind-requires
 after_kind-requires c = (search rules, search small-number)
 
-pub returns-in-Is : goal.returns-in-Is
-returns-in-Is c = search kind-next
+pub returns-in-Some : goal.returns-in-Some
+returns-in-Some c = search kind-next
 
-pub returns-in-Malformed : goal.returns-in-Malformed
-returns-in-Malformed c = search kind-stop
+pub returns-in-None : goal.returns-in-None
+returns-in-None c = search kind-stop

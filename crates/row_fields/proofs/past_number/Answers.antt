@@ -2,8 +2,8 @@
 use Rattle.row_fields.proofs.Skips.{number_passed, number-ends}
 use Rattle.row_fields.proofs.past_number.Goals as goal
 
-pub returns-in-Is : goal.returns-in-Is
-returns-in-Is c = search number_passed
+pub returns-in-Some : goal.returns-in-Some
+returns-in-Some c = search number_passed
 
-pub returns-in-Malformed : goal.returns-in-Malformed
-returns-in-Malformed c = search number-ends
+pub returns-in-None : goal.returns-in-None
+returns-in-None c = search number-ends

@@ -5,8 +5,8 @@ use Rattle.row_fields.proofs.read_destination.Goals as goal
 pub destination_after-requires : goal.destination_after-requires
 destination_after-requires c = (search number-within, search number-room)
 
-pub returns-in-Is : goal.returns-in-Is
-returns-in-Is c = search destination-next
+pub returns-in-Some : goal.returns-in-Some
+returns-in-Some c = search destination-next
 
-pub returns-in-Malformed : goal.returns-in-Malformed
-returns-in-Malformed c = search destination-stop
+pub returns-in-None : goal.returns-in-None
+returns-in-None c = search destination-stop

@@ -2,8 +2,8 @@
 use Rattle.row_fields.proofs.Fields.{item-next, item-stop, front-placed}
 use Rattle.row_fields.proofs.read_front.Goals as goal
 
-pub returns-in-Is : goal.returns-in-Is
-returns-in-Is c = (search (front-placed, item-next), search item-next)
+pub returns-in-Some : goal.returns-in-Some
+returns-in-Some c = (search (front-placed, item-next), search item-next)
 
-pub returns-in-Malformed : goal.returns-in-Malformed
-returns-in-Malformed c = (search (front-placed, item-stop), search item-stop)
+pub returns-in-None : goal.returns-in-None
+returns-in-None c = (search (front-placed, item-stop), search item-stop)

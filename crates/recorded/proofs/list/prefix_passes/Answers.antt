@@ -6,8 +6,8 @@ use Rattle.recorded.proofs.list.prefix_passes.Goals as goal
 pub prefix_at-requires : goal.prefix_at-requires
 prefix_at-requires c = (search rules, search number-within)
 
-pub returns-in-Is : goal.returns-in-Is
-returns-in-Is c = search passed-record
+pub returns-in-Some : goal.returns-in-Some
+returns-in-Some c = search passed-record
 
-pub returns-in-Malformed : goal.returns-in-Malformed
-returns-in-Malformed c = search passed-malformed
+pub returns-in-None : goal.returns-in-None
+returns-in-None c = search passed-malformed

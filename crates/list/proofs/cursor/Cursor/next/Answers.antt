@@ -8,8 +8,8 @@ returns-then-list-at c = search step_past
 pub record_at-requires : goal.record_at-requires
 record_at-requires c = search step-starts
 
-pub returns-in-Is : goal.returns-in-Is
-returns-in-Is c = search step-number
+pub returns-in-Some : goal.returns-in-Some
+returns-in-Some c = search step-number
 
-pub returns-in-Malformed : goal.returns-in-Malformed
-returns-in-Malformed c = search step-none
+pub returns-in-None : goal.returns-in-None
+returns-in-None c = search step-none
