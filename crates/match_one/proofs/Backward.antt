@@ -10,7 +10,7 @@ use Rattle.meaning.specs.Match as meaning
 use Rattle.meaning.specs.Match.{Form, literal, pattern, form_of, capture, plain_needle, form_needle, needle_of, reverse_sides, reverse}
 use Rattle.meaning.specs.Listing.{reverse_ends}
 use Rattle.glob.specs.declared.Captured.{Captured}
-use Rattle.glob.specs.declared.Captured.TheVariants as captured
+use Rattle.std.specs.Prelude as std
 use Rattle.glob.specs.Captures.{capture_meant, CaptureWithin}
 use Rattle.parse.specs.declared.types.Side.{Side}
 use Rattle.parse.specs.Places.{part_at, Within}
@@ -44,22 +44,22 @@ module _ (specs name : Text) (src dst : Side) (u : Text) (eu : u ≡ side_text s
   same-not-back e = record { meant = rw (sym is_same ∙ e); within = tt }
 
 -- both sides have a star
-module _ (specs name : Text) (src : Side) (star : ℕ) (dst : Side) (second : ℕ) (g : Captured) (eg : capture_meant name g ≡ capture (take second (side_text specs dst)) (drop (suc second) (side_text specs dst)) name) where
+module _ (specs name : Text) (src : Side) (star : ℕ) (dst : Side) (second : ℕ) (g : std.Option Captured) (eg : capture_meant name g ≡ capture (take second (side_text specs dst)) (drop (suc second) (side_text specs dst)) name) where
   -- no capture
-  pub both-none : g ≡ captured.None → AnswersBack specs name (reverse_forms (needle_form (side_text specs src) (needle.Glob star)) (target_meant (side_text specs dst) (target.Pattern second)) name) ends.Nothing
+  pub both-none : g ≡ std.None → AnswersBack specs name (reverse_forms (needle_form (side_text specs src) (needle.Glob star)) (target_meant (side_text specs dst) (target.Pattern second)) name) ends.Nothing
   both-none e =
       let z : capture (take second (side_text specs dst)) (drop (suc second) (side_text specs dst)) name ≡ none = sym (rw e at eg) in
       record { meant = rw z; within = tt }
 
   -- one
-  pub both-part : (from n : ℕ) (r : Ends) → g ≡ captured.Part from n → CaptureWithin (length name) g → Within (length specs) src → StarIn star src → r ≡ ends.Row (filled_place src star from n) row-text.Name
+  pub both-part : (x : Captured) (r : Ends) → g ≡ std.Some x → CaptureWithin (length name) g → Within (length specs) src → StarIn star src → r ≡ ends.Row (filled_place src star x.from x.len) row-text.Name
       → AnswersBack specs name (reverse_forms (needle_form (side_text specs src) (needle.Glob star)) (target_meant (side_text specs dst) (target.Pattern second)) name) r
-  both-part from n r e l w h er =
-      let z : capture (take second (side_text specs dst)) (drop (suc second) (side_text specs dst)) name ≡ some (part_at name from n) = sym (rw e at eg) in
-      let f : from + n ≤ length name = rw e at l in
+  both-part x r e l w h er =
+      let z : capture (take second (side_text specs dst)) (drop (suc second) (side_text specs dst)) name ≡ some (part_at name x.from x.len) = sym (rw e at eg) in
+      let f : x.from + x.len ≤ length name = rw e at l in
       record {
-        meant = rw (er, z) (ap (λ (o : Option Text). some (record { source = or_empty o; destination = some name })) (filled-meant specs name src star from n w h));
-        within = rw er (filled_within (length specs) (length name) src star from n w h f, tt);
+        meant = rw (er, z) (ap (λ (o : Option Text). some (record { source = or_empty o; destination = some name })) (filled-meant specs name src star x.from x.len w h));
+        within = rw er (filled_within (length specs) (length name) src star x.from x.len w h f, tt);
       }
 
 -- ---- the arms of a `match`

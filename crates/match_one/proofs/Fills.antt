@@ -8,6 +8,7 @@ use lib.ListN.{length, take, drop}
 use lib.Seq.{take-take, take-nil, drop-drop}
 use Rattle.meaning.specs.Bytes.{Text}
 use Rattle.meaning.specs.Match.{capture}
+use Rattle.std.specs.Prelude as std
 use Rattle.glob.specs.declared.Captured.{Captured}
 use Rattle.glob.specs.Captures.{capture_meant}
 use Rattle.parse.specs.declared.types.Side.{Side}
@@ -42,7 +43,7 @@ module _ (specs : Text) (s : Side) (u : Text) (eu : u ≡ side_text specs s) whe
   star-within star w h = rw eu (star-below specs s star w h)
 
   -- and another a capture by it
-  pub side-captured : (star : ℕ) (name : Text) (g : Captured) → capture_meant name g ≡ capture (take star u) (drop (suc star) u) name
+  pub side-captured : (star : ℕ) (name : Text) (g : std.Option Captured) → capture_meant name g ≡ capture (take star u) (drop (suc star) u) name
       → capture_meant name g ≡ capture (take star (side_text specs s)) (drop (suc star) (side_text specs s)) name
   side-captured star name g h = rw eu at h
 

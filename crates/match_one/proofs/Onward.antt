@@ -10,7 +10,7 @@ use Rattle.meaning.specs.Prefix.{candidates}
 use Rattle.meaning.specs.Match.{form_of, needle_of, Hit, miss, whole, caught, whole_if, caught_by, capture, mapped, maps_to, forward_by, forward}
 use Rattle.meaning.specs.Listing.{ends_of, forward_ends}
 use Rattle.glob.specs.declared.Captured.{Captured}
-use Rattle.glob.specs.declared.Captured.TheVariants as captured
+use Rattle.std.specs.Prelude as std
 use Rattle.glob.specs.Captures.{capture_meant, CaptureWithin}
 use Rattle.parse.specs.declared.types.Side.{Side}
 use Rattle.parse.specs.Places.{part_at, Within}
@@ -69,18 +69,18 @@ module _ (specs name : Text) (dst : Side) (w : Within (length specs) dst) where
   caught-answers (target.Literal l') from n h l = record { meant = refl; within = tt }
 
 -- a source with a star
-module _ (specs name : Text) (dst : Side) (rhs : Target) (a b : Text) (g : Captured) (eg : capture_meant name g ≡ capture a b name) where
+module _ (specs name : Text) (dst : Side) (rhs : Target) (a b : Text) (g : std.Option Captured) (eg : capture_meant name g ≡ capture a b name) where
   -- no capture
-  pub glob-none : g ≡ captured.None → Answers specs name dst rhs (caught_by (capture a b name)) ends.Nothing
+  pub glob-none : g ≡ std.None → Answers specs name dst rhs (caught_by (capture a b name)) ends.Nothing
   glob-none e = let z : capture a b name ≡ none = sym (rw e at eg) in rw z (record { meant = refl; within = tt })
 
   -- one
-  pub glob-part : (from n : ℕ) (r : Ends) → g ≡ captured.Part from n → CaptureWithin (length name) g → Within (length specs) dst → TargetWithin dst rhs → r ≡ caught_places dst rhs from n
+  pub glob-part : (x : Captured) (r : Ends) → g ≡ std.Some x → CaptureWithin (length name) g → Within (length specs) dst → TargetWithin dst rhs → r ≡ caught_places dst rhs x.from x.len
       → Answers specs name dst rhs (caught_by (capture a b name)) r
-  glob-part from n r e l w h er =
-      let z : capture a b name ≡ some (part_at name from n) = sym (rw e at eg) in
-      let f : from + n ≤ length name = rw e at l in
-      rw (z, er) (caught-answers specs name dst w rhs from n h f)
+  glob-part x r e l w h er =
+      let z : capture a b name ≡ some (part_at name x.from x.len) = sym (rw e at eg) in
+      let f : x.from + x.len ≤ length name = rw e at l in
+      rw (z, er) (caught-answers specs name dst w rhs x.from x.len h f)
 
 -- a source without one: what a test told
 told-whole : (specs name : Text) (dst : Side) (rhs : Target) (v : Bool) (r : Ends) → v ≡ true → Within (length specs) dst → r ≡ whole_places dst rhs → Answers specs name dst rhs (whole_if v) r

@@ -89,7 +89,7 @@ pub(crate) fn caught_row(specs: &[u8], dst: Side, rhs: Target, from: usize, len:
 }
 
 // What a name has in place of the star of a side.
-fn side_glob(specs: &[u8], side: Side, star: usize, name: &[u8]) -> Captured
+fn side_glob(specs: &[u8], side: Side, star: usize, name: &[u8]) -> Option<Captured>
     requires { Within (length specs.now) side × StarIn star side }
     ensures { (capture_meant name.now result ≡ capture (take star (side_text specs.now side)) (drop (suc star) (side_text specs.now side)) name.now)
         × CaptureWithin (length name.now) result }
@@ -104,8 +104,8 @@ fn glob_row(specs: &[u8], src: Side, star: usize, dst: Side, rhs: Target, name: 
     ensures { Answers specs.now name.now dst rhs (caught_by (capture (take star (side_text specs.now src)) (drop (suc star) (side_text specs.now src)) name.now)) result }
 {
     match side_glob(specs, src, star, name) {
-        Captured::None => Ends::Nothing,
-        Captured::Part { from, len } => caught_row(specs, dst, rhs, from, len),
+        None => Ends::Nothing,
+        Some(Captured { from, len }) => caught_row(specs, dst, rhs, from, len),
     }
 }
 
@@ -199,8 +199,8 @@ fn both_back(specs: &[u8], src: Side, star: usize, dst: Side, second: usize, nam
     ensures { AnswersBack specs.now name.now (reverse_forms (needle_form (side_text specs.now src) (Needle.Glob star)) (target_meant (side_text specs.now dst) (Target.Pattern second)) name.now) result }
 {
     match side_glob(specs, dst, second, name) {
-        Captured::None => Ends::Nothing,
-        Captured::Part { from, len } => filled_back(specs, src, star, from, len),
+        None => Ends::Nothing,
+        Some(Captured { from, len }) => filled_back(specs, src, star, from, len),
     }
 }
 

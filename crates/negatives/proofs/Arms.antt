@@ -9,7 +9,8 @@ use Rattle.meaning.specs.Bytes.{Text, bytes, same, present}
 use Rattle.meaning.specs.Match.{capture}
 use Rattle.buffer.specs.Splice.{splice}
 use Rattle.glob.specs.declared.Captured.{Captured}
-use Rattle.glob.specs.declared.Captured.TheVariants as captured
+use Rattle.std.specs.Prelude as std
+use Rattle.std.specs.Option.{is_some}
 use Rattle.glob.specs.Captures.{capture_meant}
 use Rattle.parse.specs.declared.types.Side.{Side}
 use Rattle.parse.specs.declared.types.Side.TheVariants as side
@@ -131,19 +132,19 @@ pub part-glob : (s name : Text) (at len star : ℕ) (r : Bool) → r ≡ present
     → r ≡ present (in_place_of_star (part_at s at len) star name)
 part-glob s name at len star r h = rw part_of at h
 
+-- a capture denotes a text, and none denotes none
+captured-present : (name : Text) (c : std.Option Captured) → is_some c ≡ present (capture_meant name c)
+captured-present name std.None = refl
+captured-present name (std.Some x) = refl
+
 -- what a pattern caught
-module _ (s name : Text) (at len star : ℕ) (c : Captured)
+module _ (s name : Text) (at len star : ℕ) (c : std.Option Captured)
     (h : capture_meant name c ≡ capture (take star (take (at + len - at) (drop at s))) (drop (suc star) (take (at + len - at) (drop at s))) name) where
   caught-is : capture_meant name c ≡ in_place_of_star (part_at s at len) star name
   caught-is = rw part_of at h
 
-  -- nothing
-  pub caught-none : c ≡ captured.None → false ≡ present (in_place_of_star (part_at s at len) star name)
-  caught-none e = ap present (rw e at caught-is)
-
-  -- some of its bytes
-  pub caught-part : (from n : ℕ) → c ≡ captured.Part from n → true ≡ present (in_place_of_star (part_at s at len) star name)
-  caught-part from n e = ap present (rw e at caught-is)
+  pub caught-present : (r : Bool) → r ≡ is_some c → r ≡ present (in_place_of_star (part_at s at len) star name)
+  caught-present r e = e ∙ captured-present name c ∙ ap present caught-is
 
 -- ---- what is put into a table
 

@@ -10,7 +10,6 @@ ghost use Rattle.parse.specs.Places.{mode_meant, part_at, Within, SidesWithin, s
 ghost use Rattle.negatives.specs.Negatives.{negative_numbers, in_place_of_star, negative_matches, NegativeWithin, negative_from, negative_at, excluded_by};
 ghost use Rattle.negatives.specs.Making.{text_negative, side_negative, is_glob, besides, negative_of, negative_four, added_to, PutNegative, Added};
 
-use glob::Captured;
 use glob::pieces::{pieces_glob, pieces_same};
 use parse::types::{RefSpec, Side, is_negative, is_present};
 use sides::wide;
@@ -183,10 +182,7 @@ fn glob_matches(specs: &[u8], at: usize, len: usize, star: usize, name: &[u8]) -
     ensures { result ≡ present (in_place_of_star (part_at specs.now at len) star name.now) }
 {
     let end = at + len;
-    match glob::glob(&specs[at..end], star, name) {
-        Captured::None => false,
-        Captured::Part { from: _, len: _ } => true,
-    }
+    glob::glob(&specs[at..end], star, name).is_some()
 }
 
 // A negative matches a name.

@@ -5,8 +5,8 @@ use Rattle.glob.proofs.before_end.Goals as goal
 pub returns-then-not-ends : goal.returns-then-not-ends
 returns-then-not-ends c = (search end-off, search end_none, tt)
 
-pub overflow_sub-len : goal.overflow_sub-len
-overflow_sub-len c = search end-within
+pub overflow_sub-result : goal.overflow_sub-result
+overflow_sub-result c = search end-within
 
 pub returns : goal.returns
 returns c = (search end-at, search end-part, search end-part-within)

@@ -5,5 +5,5 @@ use Rattle.match_one.proofs.rows.glob_row.Goals as goal
 pub returns-in-None : goal.returns-in-None
 returns-in-None c = search glob-none
 
-pub returns-in-Part : goal.returns-in-Part
-returns-in-Part c = search glob-part
+pub returns-in-Some : goal.returns-in-Some
+returns-in-Some c = search glob-part
