@@ -5,19 +5,13 @@ use mathlib.Core.Bool.{Bool, false}
 use Rattle.parse.specs.declared.types.Side.{Side}
 use Rattle.parse.specs.declared.types.Side.TheVariants.{Absent, Part, Head}
 use Rattle.parse.specs.declared.types.RefSpec.{RefSpec}
-use Rattle.parse.specs.declared.Parsed.{Parsed}
-use Rattle.parse.specs.declared.Parsed.TheVariants as reading
 use Rattle.refspec.specs.declared.instruction.Instruction.{Instruction}
 use Rattle.refspec.specs.declared.instruction.Instruction.TheVariants.{FetchOnly, FetchExclude, FetchAndUpdate, PushAllMatchingBranches, PushDelete, PushMatching, PushExclude}
-use Rattle.refspec.specs.declared.spec.Instructed.{Instructed}
-use Rattle.refspec.specs.declared.spec.Instructed.TheVariants as instructing
-use Rattle.refspec.specs.declared.spec.Prefixed.{Prefixed}
-use Rattle.refspec.specs.declared.spec.Prefixed.TheVariants as prefixing
 use Rattle.answers.specs.declared.SideAnswer.{SideAnswer}
 use Rattle.answers.specs.declared.SpecAnswer.{SpecAnswer}
 use Rattle.answers.specs.declared.InstructionAnswer.{InstructionAnswer}
 use Rattle.answers.specs.declared.PrefixAnswer.{PrefixAnswer}
-use Rattle.answers.specs.Numbers.{mode_number, side_numbers, side_answer, flag_number, spec_refused, spec_accepted, spec_answer, instruction_refused, instruction_told, instruction_accepted, instruction_answer, prefix_refused, prefix_accepted, prefix_answer}
+use Rattle.answers.specs.Numbers.{mode_number, side_numbers, side_answer, flag_number, spec_refused, spec_accepted, instruction_refused, instruction_told, instruction_accepted, prefix_refused, prefix_accepted}
 
 -- the arms of a `match` on a side
 module _ (side : Side) (r : SideAnswer) where
@@ -88,27 +82,3 @@ module _ (i : Instruction) (r : InstructionAnswer) where
   -- push, negative
   pub told-push-exclude : (src : Side) → i ≡ PushExclude src → r ≡ instruction_told 6 false src Absent → r ≡ instruction_accepted i
   told-push-exclude src e h = rw e h
-
--- ---- the answers of the functions behind the entries
-
--- the answers of the functions behind the entries
-module _ (p : Parsed) (a : SpecAnswer) where
-  pub parse-accepted : (r : RefSpec) → p ≡ reading.Spec r → a ≡ spec_accepted r → a ≡ spec_answer p
-  parse-accepted r e h = rw e h
-
-  pub parse-refused : (n : ℕ) → p ≡ reading.Refused n → a ≡ spec_refused n → a ≡ spec_answer p
-  parse-refused n e h = rw e h
-
-module _ (p : Instructed) (a : InstructionAnswer) where
-  pub instruction-accepted : (i : Instruction) → p ≡ instructing.To i → a ≡ instruction_accepted i → a ≡ instruction_answer p
-  instruction-accepted i e h = rw e h
-
-  pub instruction-refused : (n : ℕ) → p ≡ instructing.Refused n → a ≡ instruction_refused n → a ≡ instruction_answer p
-  instruction-refused n e h = rw e h
-
-module _ (p : Prefixed) (a : PrefixAnswer) where
-  pub prefix-accepted : (side : Side) → p ≡ prefixing.Prefix side → a ≡ prefix_accepted side → a ≡ prefix_answer p
-  prefix-accepted side e h = rw e h
-
-  pub prefix-refused : (n : ℕ) → p ≡ prefixing.Refused n → a ≡ prefix_refused n → a ≡ prefix_answer p
-  prefix-refused n e h = rw e h

@@ -1,18 +1,14 @@
 -- The numbers of the C interface for each case of each answer. A field without a meaning is 0.
-use Rattle.std.specs.Prelude.{ℕ, Bool, true, false}
+use Rattle.std.specs.Prelude.{ℕ, Bool, true, false, Result, Ok, Err}
 use Rattle.parse.specs.declared.types.Mode.{Mode}
 use Rattle.parse.specs.declared.types.Mode.TheVariants.{Normal, Force, Negative}
 use Rattle.parse.specs.declared.types.Side.{Side}
 use Rattle.parse.specs.declared.types.Side.TheVariants.{Absent, Part, Head}
 use Rattle.parse.specs.declared.types.RefSpec.{RefSpec}
-use Rattle.parse.specs.declared.Parsed.{Parsed}
-use Rattle.parse.specs.declared.Parsed.TheVariants as reading
+use Rattle.refusal.specs.declared.Refusal.{Refusal}
+use Rattle.refusal.specs.Numbers.{number_of}
 use Rattle.refspec.specs.declared.instruction.Instruction.{Instruction}
 use Rattle.refspec.specs.declared.instruction.Instruction.TheVariants.{FetchOnly, FetchExclude, FetchAndUpdate, PushAllMatchingBranches, PushDelete, PushMatching, PushExclude}
-use Rattle.refspec.specs.declared.spec.Instructed.{Instructed}
-use Rattle.refspec.specs.declared.spec.Instructed.TheVariants as instructing
-use Rattle.refspec.specs.declared.spec.Prefixed.{Prefixed}
-use Rattle.refspec.specs.declared.spec.Prefixed.TheVariants as prefixing
 use Rattle.answers.specs.declared.SideAnswer.{SideAnswer}
 use Rattle.answers.specs.declared.SpecAnswer.{SpecAnswer}
 use Rattle.answers.specs.declared.InstructionAnswer.{InstructionAnswer}
@@ -48,9 +44,9 @@ abbrev pub spec_accepted : RefSpec → SpecAnswer
 spec_accepted r = record { refusal = 0; mode = mode_number r.mode; source = side_answer r.src; destination = side_answer r.dst }
 
 -- what reading answers
-abbrev pub spec_answer : Parsed → SpecAnswer
-spec_answer (reading.Spec r) = spec_accepted r
-spec_answer (reading.Refused n) = spec_refused n
+abbrev pub spec_answer : Result RefSpec Refusal → SpecAnswer
+spec_answer (Ok r) = spec_accepted r
+spec_answer (Err q) = spec_refused (number_of q)
 
 -- an instruction that is refused
 abbrev pub instruction_refused : ℕ → InstructionAnswer
@@ -72,9 +68,9 @@ instruction_accepted (PushMatching src dst force) = instruction_told 5 force src
 instruction_accepted (PushExclude src) = instruction_told 6 false src Absent
 
 -- what an instruction answers
-abbrev pub instruction_answer : Instructed → InstructionAnswer
-instruction_answer (instructing.To i) = instruction_accepted i
-instruction_answer (instructing.Refused n) = instruction_refused n
+abbrev pub instruction_answer : Result Instruction Refusal → InstructionAnswer
+instruction_answer (Ok i) = instruction_accepted i
+instruction_answer (Err q) = instruction_refused (number_of q)
 
 -- a prefix that is refused
 abbrev pub prefix_refused : ℕ → PrefixAnswer
@@ -85,6 +81,6 @@ abbrev pub prefix_accepted : Side → PrefixAnswer
 prefix_accepted side = record { refusal = 0; prefix = side_answer side }
 
 -- what a prefix answers
-abbrev pub prefix_answer : Prefixed → PrefixAnswer
-prefix_answer (prefixing.Prefix side) = prefix_accepted side
-prefix_answer (prefixing.Refused n) = prefix_refused n
+abbrev pub prefix_answer : Result Side Refusal → PrefixAnswer
+prefix_answer (Ok side) = prefix_accepted side
+prefix_answer (Err q) = prefix_refused (number_of q)

@@ -4,10 +4,9 @@
 ghost use Rattle.std.specs.Prelude.{◌≡◌};
 ghost use Rattle.answers.specs.Numbers.{mode_number, side_numbers, side_answer, flag_number, spec_refused, spec_accepted, spec_answer, instruction_refused, instruction_told, instruction_accepted, instruction_answer, prefix_refused, prefix_accepted, prefix_answer};
 
-use parse::Parsed;
 use parse::types::{Mode, RefSpec, Side};
 use refspec::instruction::Instruction;
-use refspec::spec::{Instructed, Prefixed};
+use refusal::Refusal;
 
 // A side of a spec: its kind, where it begins and how many bytes it has. In the header its three fields stand in the answers themselves.
 #[repr(C)]
@@ -189,31 +188,31 @@ fn place(side: Side) -> PrefixAnswer
 }
 
 // What reading answers, in numbers.
-pub fn spec_answer(p: Parsed) -> SpecAnswer
+pub fn spec_answer(p: Result<RefSpec, Refusal>) -> SpecAnswer
     ensures { result ≡ spec_answer p }
 {
     match p {
-        Parsed::Spec(r) => spec_accepted(r),
-        Parsed::Refused(n) => spec_refused(n),
+        Ok(r) => spec_accepted(r),
+        Err(q) => spec_refused(q.number()),
     }
 }
 
 // What an instruction answers, in numbers.
-pub fn instruction_answer(i: Instructed) -> InstructionAnswer
+pub fn instruction_answer(i: Result<Instruction, Refusal>) -> InstructionAnswer
     ensures { result ≡ instruction_answer i }
 {
     match i {
-        Instructed::To(i) => told_instruction(i),
-        Instructed::Refused(n) => told_refused(n),
+        Ok(i) => told_instruction(i),
+        Err(q) => told_refused(q.number()),
     }
 }
 
 // What a prefix answers, in numbers.
-pub fn prefix_answer(p: Prefixed) -> PrefixAnswer
+pub fn prefix_answer(p: Result<Side, Refusal>) -> PrefixAnswer
     ensures { result ≡ prefix_answer p }
 {
     match p {
-        Prefixed::Prefix(side) => place(side),
-        Prefixed::Refused(n) => place_refused(n),
+        Ok(side) => place(side),
+        Err(q) => place_refused(q.number()),
     }
 }

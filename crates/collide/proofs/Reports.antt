@@ -17,8 +17,9 @@ use Rattle.meaning.specs.Collide.{as_written, shared_by, collision, collide_byte
 use Rattle.parse.specs.declared.types.Side.{Side}
 use Rattle.parse.specs.declared.types.Side.TheVariants as side
 use Rattle.parse.specs.declared.types.RefSpec.{RefSpec}
-use Rattle.parse.specs.declared.Parsed.{Parsed}
-use Rattle.parse.specs.declared.Parsed.TheVariants as reading
+use Rattle.std.specs.Prelude.{Result, Ok, Err}
+use Rattle.refusal.specs.declared.Refusal.{Refusal}
+use Rattle.refusal.specs.Numbers.{number_of}
 use Rattle.parse.specs.Places.{mode_meant, side_meant, Within, SidesWithin, spec_meant, parsed}
 use Rattle.parse.proofs.Parts.{part_length}
 use Rattle.parse.proofs.Answers.{read-accepted, read-refused}
@@ -83,21 +84,21 @@ collision-is t s x w u r y v t₁ u₁ e f = rw (e, f, w.written, v.written)
 -- ---- the report
 
 -- after the first was read
-module _ (s : meaning.Spec) (u : Text) (answer : Parsed) (ea : answer ≡ parsed 0 u) where
-  pub after-accepted : (r : RefSpec) → answer ≡ reading.Spec r → accepted (collision s (spec_meant u r) ∷ []) ≡ report_after s u
+module _ (s : meaning.Spec) (u : Text) (answer : Result RefSpec Refusal) (ea : answer ≡ parsed 0 u) where
+  pub after-accepted : (r : RefSpec) → answer ≡ Ok r → accepted (collision s (spec_meant u r) ∷ []) ≡ report_after s u
   unfolding report_after
   after-accepted r e = rw (read-accepted 0 u answer ea r e)
 
-  pub after-refused : (n : ℕ) → answer ≡ reading.Refused n → report_after s u ≡ refused n (some 2)
+  pub after-refused : (q : Refusal) (n : ℕ) → answer ≡ Err q → n ≡ number_of q → report_after s u ≡ refused n (some 2)
   unfolding report_after
-  after-refused n e = rw (read-refused 0 u answer ea n e)
+  after-refused q n e en = rw (read-refused 0 u answer ea q e, en)
 
 -- the whole
-module _ (t u : Text) (answer : Parsed) (ea : answer ≡ parsed 0 t) where
-  pub report-accepted : (r : RefSpec) → answer ≡ reading.Spec r → report_after (spec_meant t r) u ≡ collide_bytes t u
+module _ (t u : Text) (answer : Result RefSpec Refusal) (ea : answer ≡ parsed 0 t) where
+  pub report-accepted : (r : RefSpec) → answer ≡ Ok r → report_after (spec_meant t r) u ≡ collide_bytes t u
   unfolding report_after collide_bytes collide.collide
   report-accepted r e = rw (read-accepted 0 t answer ea r e)
 
-  pub report-refused : (n : ℕ) → answer ≡ reading.Refused n → collide_bytes t u ≡ refused n (some 1)
+  pub report-refused : (q : Refusal) (n : ℕ) → answer ≡ Err q → n ≡ number_of q → collide_bytes t u ≡ refused n (some 1)
   unfolding collide_bytes collide.collide
-  report-refused n e = rw (read-refused 0 t answer ea n e)
+  report-refused q n e en = rw (read-refused 0 t answer ea q e, en)

@@ -22,8 +22,8 @@ use answer::{Collision, none, refused};
 use literal::{literal_in, two_literals};
 use matcher::needle::target_of;
 use matcher::types::{Lead, Target};
+use parse::parse;
 use parse::types::{RefSpec, is_negative};
-use parse::{Parsed, parse};
 use pattern::starts_and_ends;
 use refspec::side::text_of;
 
@@ -104,8 +104,8 @@ fn with_second(first: &[u8], s: RefSpec, second: &[u8], out: &mut [u8]) -> Colli
     ensures { MeetsMaybe (report_after (spec_meant first.now s) second.now) out.old out.new result.refusal result.which result.collides result.length }
 {
     match parse(0, second) {
-        Parsed::Spec(r) => two_specs(first, s, second, r, out),
-        Parsed::Refused(n) => refused(n, 2),
+        Ok(r) => two_specs(first, s, second, r, out),
+        Err(q) => refused(q.number(), 2),
     }
 }
 
@@ -114,7 +114,7 @@ pub fn collide(first: &[u8], second: &[u8], out: &mut [u8]) -> Collision
     ensures { MeetsMaybe (collide_bytes first.now second.now) out.old out.new result.refusal result.which result.collides result.length }
 {
     match parse(0, first) {
-        Parsed::Spec(s) => with_second(first, s, second, out),
-        Parsed::Refused(n) => refused(n, 1),
+        Ok(s) => with_second(first, s, second, out),
+        Err(q) => refused(q.number(), 1),
     }
 }

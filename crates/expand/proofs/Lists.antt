@@ -18,8 +18,9 @@ use Rattle.buffer.proofs.Splices.{splice-none}
 use Rattle.number.proofs.Texts.{number-room, text-room, text-put}
 use Rattle.parse.specs.declared.types.Side.{Side}
 use Rattle.parse.specs.declared.types.RefSpec.{RefSpec}
-use Rattle.parse.specs.declared.Parsed.{Parsed}
-use Rattle.parse.specs.declared.Parsed.TheVariants.{Spec, Refused}
+use Rattle.std.specs.Prelude.{Result, Ok, Err}
+use Rattle.refusal.specs.declared.Refusal.{Refusal}
+use Rattle.refusal.specs.Numbers.{number_of}
 use Rattle.parse.specs.Places.{part_at, side_meant, Within, SidesWithin, spec_meant, parsed}
 use Rattle.parse.proofs.Parts.{part_of}
 use Rattle.expand.specs.declared.Yield.{Yield}
@@ -144,13 +145,13 @@ module _ (op : ℕ) (t : Text) (r : RefSpec) (side : Side) (y : Yield) (es : sid
 
 -- ---- the entry
 
-module _ (op : ℕ) (t : Text) (answer : Parsed) (ea : answer ≡ parsed op t) (entry : Text) where
+module _ (op : ℕ) (t : Text) (answer : Result RefSpec Refusal) (ea : answer ≡ parsed op t) (entry : Text) where
   -- an accepted spec's prefixes are written
-  pub expanded-accepted : (exit : Text) (r : RefSpec) (a b c : ℕ) → answer ≡ Spec r → MeetsOne (accepted (some (record_bytes (expand_prefixes op (spec_meant t r))) ∷ [])) entry exit a b c → MeetsOne (expanded op t) entry exit a b c
+  pub expanded-accepted : (exit : Text) (r : RefSpec) (a b c : ℕ) → answer ≡ Ok r → MeetsOne (accepted (some (record_bytes (expand_prefixes op (spec_meant t r))) ∷ [])) entry exit a b c → MeetsOne (expanded op t) entry exit a b c
   unfolding expanded
   expanded-accepted = spec-accepted (λ s. record_bytes (expand_prefixes op s)) op t answer ea entry
 
   -- a refused one leaves the buffer as it was
-  pub expanded-refused : (n : ℕ) (w : Written) → answer ≡ Refused n → w ≡ refused_with n 0 → MeetsOne (expanded op t) entry entry w.refusal w.«record» w.length
+  pub expanded-refused : (q : Refusal) (n : ℕ) (w : Written) → answer ≡ Err q → n ≡ number_of q → w ≡ refused_with n 0 → MeetsOne (expanded op t) entry entry w.refusal w.«record» w.length
   unfolding expanded
   expanded-refused = spec-refused (λ s. record_bytes (expand_prefixes op s)) op t answer ea entry

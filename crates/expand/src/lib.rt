@@ -16,8 +16,8 @@ ghost use Rattle.expand.specs.Yields.{yield_without, yield_at, yield_place, yiel
 
 use buffer::written::{Written, done, refused, short};
 use frames::{candidates_size, put_candidates};
+use parse::parse;
 use parse::types::{RefSpec, Side, is_present};
-use parse::{Parsed, parse};
 use refspec::spec::{prefix_of, remote};
 use spec_text::{put_side, side_size};
 
@@ -150,7 +150,7 @@ pub fn expand_prefixes(op: u64, spec: &[u8], out: &mut [u8]) -> Written
     ensures { MeetsOne (expanded op spec.now) out.old out.new result.refusal result.record result.length }
 {
     match parse(op, spec) {
-        Parsed::Spec(r) => expand(op, spec, r, out),
-        Parsed::Refused(n) => refused(n, 0),
+        Ok(r) => expand(op, spec, r, out),
+        Err(q) => refused(q.number(), 0),
     }
 }

@@ -21,7 +21,7 @@ pub part-within : (side : Side) (at n : ℕ) → side ≡ Part at n → (len : �
 part-within side at n is len w = rw is at w
 
 -- a side is there if it denotes a text
-pub present-meant : (t : Text) (side : Side) → present (side_meant t side) ≡ is_present side
-present-meant t Absent = refl
-present-meant t (Part at n) = refl
-present-meant t Head = refl
+pub present_meant : (t : Text) (side : Side) → present (side_meant t side) ≡ is_present side
+present_meant t Absent = refl
+present_meant t (Part at n) = refl
+present_meant t Head = refl

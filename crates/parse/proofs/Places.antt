@@ -12,7 +12,8 @@ use lib.Dec.{eqb}
 use lib.ListN.{length, take, drop, length-append, length-drop}
 use lib.Seq.{take-append_seam, drop-append-add, drop-drop, take_all}
 use Rattle.meaning.specs.Bytes.{Text, bytes, colon, ◌and◌, same, given}
-use Rattle.meaning.specs.Spec.{Mode, Normal, Force, Negative, Sides, one, two, is_negative, mode_of_byte, mode_of, sign_off, unsigned, sides_next, sides_of, left, right, supplied, named, source_of, spec_from, spec_of, spec_refusal, read_spec, unless, accepted}
+use Rattle.meaning.specs.Spec.{Mode, Normal, Force, Negative, Sides, one, two, is_negative, mode_of_byte, mode_of, sign_off, unsigned, sides_next, sides_of, left, right, supplied, named, source_of, spec_from, spec_of, spec_refusal, read_spec, unless, accepted, ◌else◌then◌, sides_refusal}
+use Rattle.refusal.proofs.Numbers.{number_of-question}
 use Rattle.parse.specs.declared.types.Side.TheVariants.{Absent, Part, Head}
 use Rattle.parse.specs.Places.{mode_meant, mode_case, part_at, side_meant, Within, SidesWithin, spec_meant, sign_length, placed, supplied_place, named_place, source_place, places_at, places_of, parsed_unless, parsed, parsed_meant}
 
@@ -160,11 +161,20 @@ pub sides-within : (op : ℕ) (t : Text) → SidesWithin (length t) (places_of o
 unfolding places_of
 sides-within op t = places-within t (sign_length (mode_of t)) (sides_of (unsigned t)) (sign-within t) (spec-split t) op (mode_of t)
 
+-- no question has a number above 18
+else-most : (b : Bool) (n x : ℕ) → n ≤ 18 → x ≤ 18 → (b else n then x) ≤ 18
+else-most true n x h i = i
+else-most false n x h i = h
+
+pub spec_refusal-most : (op : ℕ) (t : Text) → spec_refusal op t ≤ 18
+unfolding spec_refusal sides_refusal
+spec_refusal-most op t = search (else-most, arith) depth 40
+
 -- what reading answers means what the meaning reads
 pub parsed-meant : (op : ℕ) (t : Text) → parsed_meant t (parsed op t) ≡ read_spec op t
 unfolding parsed read_spec
-parsed-meant op t = go (spec_refusal op t)
+parsed-meant op t = go (spec_refusal op t) (spec_refusal-most op t)
   where
-    go : (n : ℕ) → parsed_meant t (parsed_unless n (places_of op t)) ≡ unless n (spec_of op t)
-    go zero = ap accepted (places-meant op t)
-    go (suc n) = refl
+    go : (n : ℕ) → n ≤ 18 → parsed_meant t (parsed_unless n (places_of op t)) ≡ unless n (spec_of op t)
+    go zero h = ap accepted (places-meant op t)
+    go (suc n) h = rw (number_of-question (suc n) (omega arith) h)

@@ -1,6 +1,6 @@
 -- Why the cases that the crate's `instruction` calls unreachable cannot be: what the places of an accepted spec are. Assumes nothing.
 use Prim.Native.Nat.{ℕ, suc, ◌+◌}
-use native.Mathlib.Omega.{arith}
+use Rattle.std.specs.Prelude.{Ok}
 use mathlib.Core.Path.{◌≡◌, refl, sym, ap, ◌∙◌}
 use mathlib.Core.Bool.{true}
 use mathlib.Core.List.{[], ◌∷◌}
@@ -13,23 +13,22 @@ use Rattle.promises.proofs.Accepted.{read-is-accepted}
 use Rattle.parse.specs.declared.types.Side.{Side}
 use Rattle.parse.specs.declared.types.Side.TheVariants.{Absent, Part, Head}
 use Rattle.parse.specs.declared.types.RefSpec.{RefSpec}
-use Rattle.parse.specs.declared.Parsed.TheVariants.{Spec}
 use Rattle.parse.specs.Places.{mode_meant, side_meant, is_present, spec_meant, sign_length, placed, places_at, places_of, parsed}
-use Rattle.parse.proofs.Parts.{present-meant}
+use Rattle.parse.proofs.Parts.{present_meant}
 use Rattle.parse.proofs.Answers.{read-accepted, read-places}
 
 -- a side that denotes no text is absent
 absent-meant : (t : Text) (side : Side) → side_meant t side ≡ none → side ≡ Absent
 absent-meant t Absent e = refl
-absent-meant t (Part at n) e = absurd (let z : ◌≡◌ {A = ℕ} 0 1 = cc in omega arith)
-absent-meant t Head e = absurd (let z : ◌≡◌ {A = ℕ} 0 1 = cc in omega arith)
+absent-meant t (Part at n) e = absurd cc
+absent-meant t Head e = absurd cc
 
 -- a side's own place is never the supplied `HEAD`
 placed-not-head : (at : ℕ) (l : Text) → placed at l ≡ Head → ⊥
-placed-not-head at [] e = let z : ◌≡◌ {A = ℕ} 0 1 = cc in omega arith
-placed-not-head at (x ∷ l) e = let z : ◌≡◌ {A = ℕ} 0 1 = cc in omega arith
+placed-not-head at [] e = cc
+placed-not-head at (x ∷ l) e = cc
 
-module _ (op : ℕ) (t : Text) (r : RefSpec) (e : parsed op t ≡ Spec r) where
+module _ (op : ℕ) (t : Text) (r : RefSpec) (e : parsed op t ≡ Ok r) where
   -- what every accepted spec is
   accepted-so : AcceptedSpec op (spec_meant t r)
   accepted-so = read-is-accepted op t (spec_meant t r) (read-accepted op t (parsed op t) refl r e)
@@ -37,13 +36,13 @@ module _ (op : ℕ) (t : Text) (r : RefSpec) (e : parsed op t ≡ Spec r) where
   -- a fetch has a source
   pub fetch-has-source : op ≡ 0 → is_present r.src ≡ true
   unfolding spec_meant
-  fetch-has-source z = sym (present-meant t r.src) ∙ accepted-so.fetch-source (rw z)
+  fetch-has-source z = sym (present_meant t r.src) ∙ accepted-so.fetch-source (rw z)
 
   module _ (negative : is_negative (mode_meant r.mode) ≡ true) where
     -- a negative spec has a source
     pub negative-has-source : is_present r.src ≡ true
     unfolding spec_meant
-    negative-has-source = sym (present-meant t r.src) ∙ accepted-so.negative-source negative
+    negative-has-source = sym (present_meant t r.src) ∙ accepted-so.negative-source negative
 
     -- and no destination
     pub negative-stands-alone : r.dst ≡ Absent

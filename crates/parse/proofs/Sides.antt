@@ -10,16 +10,13 @@ use mathlib.Core.List.{[], ◌∷◌}
 use mathlib.Core.Option.{Option, none, some}
 use borrow.Author.Tests.{lt-leb}
 use lib.Dec.{eqb, leb}
-use Rattle.meaning.specs.Bytes.{Text, star, ◌and◌, ◌or◌, any, has_byte, count_if, count, if_given}
+use Rattle.meaning.specs.Bytes.{Text, bytes, star, ◌and◌, ◌or◌, any, has_byte, count_if, count}
 use Rattle.meaning.specs.Names.{part_passes, parts_pass, no_two_dots, rule_four_byte, no_controls, rule_five_byte, no_globs, slashes_pass, no_last_dot, no_at_brace, not_at, no_backslash, name_passes, side_passes}
-use Rattle.meaning.specs.Spec.{◌else◌then◌, starred, has_star, hash_like, not_hash_like, at_most_one_star}
+use Rattle.meaning.specs.Spec.{◌else◌then◌, starred, has_star, at_most_one_star}
 use Rattle.name.specs.declared.NameKind.{NameKind}
 use Rattle.name.specs.declared.NameKind.TheVariants.{Name, Pattern, Neither}
 use Rattle.name.specs.Rules.{kind_by_stars, kind_of}
 use Rattle.name.proofs.Stars.{read_none}
-use Rattle.parse.specs.declared.types.Side.{Side}
-use Rattle.parse.specs.declared.types.Side.TheVariants.{Part, Head}
-use Rattle.parse.specs.Places.{part_at, side_meant}
 use Rattle.parse.specs.Questions.{text_refusal, side_refusal, side_name_kind, is_pattern}
 
 -- ---- questions 5 to 8
@@ -42,67 +39,39 @@ count-some b (x ∷ t) n = go (eqb b x) (count-some b t) n
     go true f z = refl
     go false f z = f z
 
--- questions 6 and 8, answered by the name rules
-module _ (number : ℕ) (free b p : Bool) (held : free ≡ false) (is : b ≡ p) where
-  -- a name that passes is not refused
-  pub name-yes : b ≡ true → 0 ≡ ((free or p) else number then 0)
-  name-yes e = rw (held, sym is ∙ e)
-
-  -- one that does not is, unless it is free
-  pub name-no : b ≡ false → number ≡ ((free or p) else number then 0)
-  name-no e = rw (held, sym is ∙ e)
-
-module _ (number : ℕ) (b p : Bool) (is : b ≡ p) where
-  -- a pattern that passes is not refused
-  pub pattern-yes : b ≡ true → 0 ≡ (p else number then 0)
-  pattern-yes e = rw (sym is ∙ e)
-
-  -- one that does not is
-  pub pattern-no : b ≡ false → number ≡ (p else number then 0)
-  pattern-no e = rw (sym is ∙ e)
-
-module _ (first : ℕ) (free : Bool) (t : Text) (k r : ℕ) (ek : k ≡ count 42 t) where
+module _ (first : ℕ) (free : Bool) (t : Text) where
   -- no star: the name rules decide, unless the text is free
-  pub text-plain : k ≡ 0 → r ≡ ((free or name_passes t) else first + 1 then 0) → r ≡ text_refusal first free t
+  pub text_plain : count 42 t ≡ 0 → text_refusal first free t ≡ ((free or name_passes t) else first + 1 then 0)
   unfolding text_refusal at_most_one_star starred side_passes
-  text-plain z h =
-      let plain : has_byte star t ≡ false = count_none 42 t (sym ek ∙ z) in
-      rw (sym ek ∙ z, plain, read_none t plain, ← add-one first) (h ∙ go free (name_passes t))
+  text_plain z =
+      let plain : has_byte star t ≡ false = count_none 42 t z in
+      rw (z, plain, read_none t plain, ← add-one first) (go free (name_passes t))
     where
-      go : (a b : Bool) → ((a or b) else first + 1 then 0) ≡ (((a and true) or b) else first + 1 then 0)
+      go : (a b : Bool) → (((a and true) or b) else first + 1 then 0) ≡ ((a or b) else first + 1 then 0)
       go true b = refl
       go false b = refl
 
   -- one star: the rules on patterns decide
-  pub text-pattern : k ≡ 1 → r ≡ (side_passes t else first + 1 then 0) → r ≡ text_refusal first free t
+  pub text_pattern : count 42 t ≡ 1 → text_refusal first free t ≡ (side_passes t else first + 1 then 0)
   unfolding text_refusal at_most_one_star starred
-  text-pattern e h =
-      let starry : has_byte star t ≡ true = count-some 42 t (λ z. omega (arith, ek)) in
-      rw (sym ek ∙ e, starry, ← add-one first) (h ∙ go free (side_passes t))
+  text_pattern e =
+      let starry : has_byte star t ≡ true = count-some 42 t (λ z. omega (arith, e)) in
+      rw (e, starry, ← add-one first) (go free (side_passes t))
     where
-      go : (a b : Bool) → (b else first + 1 then 0) ≡ (((a and false) or b) else first + 1 then 0)
+      go : (a b : Bool) → (((a and false) or b) else first + 1 then 0) ≡ (b else first + 1 then 0)
       go true b = refl
       go false b = refl
 
   -- two stars or more: the first number
-  pub text-stars : (k ≡ 0 → ⊥) → (k ≡ 1 → ⊥) → first ≡ text_refusal first free t
+  pub text_stars : (count 42 t ≡ 0 → ⊥) → (count 42 t ≡ 1 → ⊥) → text_refusal first free t ≡ first
   unfolding text_refusal at_most_one_star
-  text-stars n m = rw (← ek, lt-leb k 1 (omega arith))
+  text_stars n m = rw (lt-leb (count 42 t) 1 (omega arith))
 
--- a side is asked what its text is
-module _ (first : ℕ) (free : Bool) (t : Text) (side : Side) where
-  -- a part is asked as its bytes
-  pub side-part : (at n r : ℕ) → side ≡ Part at n → r ≡ text_refusal first free (part_at t at n) → r ≡ side_refusal first free (side_meant t side)
-  side-part at n r e h = rw e h
-
-  -- the supplied `HEAD` passes
-  pub side-head : side ≡ Head → 0 ≡ side_refusal first free (side_meant t side)
-  unfolding text_refusal at_most_one_star starred side_passes name_passes parts_pass part_passes no_two_dots no_controls rule_four_byte no_globs rule_five_byte slashes_pass no_last_dot no_at_brace not_at no_backslash
-  side-head e = rw e (go free)
-    where
-      go : (a : Bool) → 0 ≡ (((a and true) or true) else suc first then 0)
-      go true = refl
-      go false = refl
+-- the supplied `HEAD` passes
+pub head_passes : (first : ℕ) (free : Bool) → text_refusal first free (bytes "HEAD") ≡ 0
+unfolding text_refusal at_most_one_star starred side_passes name_passes parts_pass part_passes no_two_dots no_controls rule_four_byte no_globs rule_five_byte slashes_pass no_last_dot no_at_brace not_at no_backslash
+head_passes first true = refl
+head_passes first false = refl
 
 -- ---- what a side is by the name rules
 
@@ -114,7 +83,7 @@ passes Neither = false
 
 module _ (first : ℕ) (free : Bool) where
   -- a text of such a kind is not refused
-  text-passes : (t : Text) → passes (kind_of t) ≡ true → 0 ≡ text_refusal first free t
+  text-passes : (t : Text) → passes (kind_of t) ≡ true → text_refusal first free t ≡ 0
   unfolding kind_of text_refusal at_most_one_star
   text-passes t e = go (side_passes t) (count star t) e
     where
@@ -122,25 +91,24 @@ module _ (first : ℕ) (free : Bool) where
       or-true true = refl
       or-true false = refl
 
-      go : (p : Bool) (n : ℕ) → passes (cond p (kind_by_stars n) Neither) ≡ true → 0 ≡ (leb n 1 else first then ((free and not (starred t)) or p) else suc first then 0)
+      go : (p : Bool) (n : ℕ) → passes (cond p (kind_by_stars n) Neither) ≡ true → (leb n 1 else first then ((free and not (starred t)) or p) else suc first then 0) ≡ 0
       go true zero e = rw (or-true (free and not (starred t)))
       go true (suc zero) e = rw (or-true (free and not (starred t)))
       go true (suc (suc n)) e = absurd (true≢false (sym e))
       go false n e = absurd (true≢false (sym e))
 
   -- nor is such a side
-  side-passes : (o : Option Text) → passes (side_name_kind o) ≡ true → 0 ≡ side_refusal first free o
+  side-passes : (o : Option Text) → passes (side_name_kind o) ≡ true → side_refusal first free o ≡ 0
   side-passes none e = refl
   side-passes (some t) e = text-passes t e
 
-  module _ (o : Option Text) (k : NameKind) (is : k ≡ side_name_kind o) where
-    -- a name
-    pub refusal-name : k ≡ Name → 0 ≡ side_refusal first free o
-    refusal-name e = side-passes o (ap passes (sym is ∙ e))
+  -- a name
+  pub name_kind_passes : (o : Option Text) → Name ≡ side_name_kind o → side_refusal first free o ≡ 0
+  name_kind_passes o e = side-passes o (ap passes (sym e))
 
-    -- a pattern
-    pub refusal-pattern : k ≡ Pattern → 0 ≡ side_refusal first free o
-    refusal-pattern e = side-passes o (ap passes (sym is ∙ e))
+  -- a pattern
+  pub pattern_kind_passes : (o : Option Text) → Pattern ≡ side_name_kind o → side_refusal first free o ≡ 0
+  pattern_kind_passes o e = side-passes o (ap passes (sym e))
 
 -- a text that is not refused is a pattern if it has a star
 text-star : (n : ℕ) (free : Bool) (t : Text) → text_refusal (suc n) free t ≡ 0 → is_pattern (kind_of t) ≡ starred t
@@ -164,25 +132,7 @@ pub side-star : (n : ℕ) (free : Bool) (o : Option Text) → side_refusal (suc 
 side-star n free none e = refl
 side-star n free (some t) e = text-star n free t e
 
--- ---- kinds and hashes of a side
-
-module _ (t : Text) (side : Side) (at n : ℕ) (is : side ≡ Part at n) where
-  -- a part is what its bytes are
-  pub kind-part : (k : NameKind) → k ≡ kind_of (part_at t at n) → k ≡ side_name_kind (side_meant t side)
-  kind-part k h = rw is h
-
-  -- a part looks like a hash if its bytes do
-  pub hash-part : (b : Bool) → b ≡ hash_like (part_at t at n) → not b ≡ if_given not_hash_like (side_meant t side)
-  unfolding not_hash_like
-  hash-part b h = rw (is, h)
-
-module _ (t : Text) (side : Side) (is : side ≡ Head) where
-  -- the supplied `HEAD` is a name
-  pub kind-head : Name ≡ side_name_kind (side_meant t side)
-  unfolding kind_of side_passes name_passes parts_pass part_passes no_two_dots no_controls rule_four_byte no_globs rule_five_byte slashes_pass no_last_dot no_at_brace not_at no_backslash
-  kind-head = rw is
-
-  -- the supplied `HEAD` does not look like a hash
-  pub hash-head : not false ≡ if_given not_hash_like (side_meant t side)
-  unfolding not_hash_like hash_like
-  hash-head = rw is
+-- the supplied `HEAD` is a name
+pub kind_of_head : kind_of (bytes "HEAD") ≡ Name
+unfolding kind_of side_passes name_passes parts_pass part_passes no_two_dots no_controls rule_four_byte no_globs rule_five_byte slashes_pass no_last_dot no_at_brace not_at no_backslash
+kind_of_head = refl

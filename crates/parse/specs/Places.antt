@@ -1,5 +1,5 @@
 -- A refspec as places in its bytes, and the texts that the places denote.
-use Rattle.std.specs.Prelude.{ℕ, zero, suc, ◌+◌, ◌≤◌, Bool, true, false, not, cond, [], ◌∷◌, eqb, length, take, drop}
+use Rattle.std.specs.Prelude.{ℕ, zero, suc, ◌+◌, ◌≤◌, Bool, true, false, not, cond, [], ◌∷◌, eqb, length, take, drop, Result, Ok, Err}
 use Rattle.std.proofs.Math.Option.{Option, none, some}
 use Rattle.meaning.specs.Bytes.{Text, bytes, ◌and◌, same}
 use Rattle.meaning.specs.Spec as meaning
@@ -8,8 +8,8 @@ use Rattle.parse.specs.declared.types.Mode.TheVariants.{Normal, Force, Negative}
 use Rattle.parse.specs.declared.types.Side.{Side}
 use Rattle.parse.specs.declared.types.Side.TheVariants.{Absent, Part, Head}
 use Rattle.parse.specs.declared.types.RefSpec.{RefSpec}
-use Rattle.parse.specs.declared.Parsed.{Parsed}
-use Rattle.parse.specs.declared.Parsed.TheVariants.{Spec, Refused}
+use Rattle.refusal.specs.declared.Refusal.{Refusal}
+use Rattle.refusal.specs.Numbers.{number_of, question}
 
 -- the mode that a mode of the code means
 abbrev pub mode_meant : Mode → meaning.Mode
@@ -92,15 +92,15 @@ unfoldable pub places_of : ℕ → Text → RefSpec
 places_of op t = places_at op (meaning.mode_of t) (sign_length (meaning.mode_of t)) (meaning.sides_of (meaning.unsigned t))
 
 -- places, unless a question refused
-abbrev pub parsed_unless : ℕ → RefSpec → Parsed
-parsed_unless zero r = Spec r
-parsed_unless (suc n) r = Refused (suc n)
+abbrev pub parsed_unless : ℕ → RefSpec → Result RefSpec Refusal
+parsed_unless zero r = Ok r
+parsed_unless (suc n) r = Err (question (suc n))
 
 -- what reading a spec answers
-unfoldable pub parsed : ℕ → Text → Parsed
+unfoldable pub parsed : ℕ → Text → Result RefSpec Refusal
 parsed op t = parsed_unless (meaning.spec_refusal op t) (places_of op t)
 
 -- what an answer of reading means
-abbrev pub parsed_meant : Text → Parsed → meaning.Answer meaning.Spec
-parsed_meant t (Spec r) = meaning.accepted (spec_meant t r)
-parsed_meant t (Refused n) = meaning.refused n none
+abbrev pub parsed_meant : Text → Result RefSpec Refusal → meaning.Answer meaning.Spec
+parsed_meant t (Ok r) = meaning.accepted (spec_meant t r)
+parsed_meant t (Err r) = meaning.refused (number_of r) none

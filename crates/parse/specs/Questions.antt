@@ -9,6 +9,8 @@ use Rattle.meaning.specs.Spec.{◌else◌then◌, Mode, is_negative, push, starr
 use Rattle.name.specs.declared.NameKind.{NameKind}
 use Rattle.name.specs.declared.NameKind.TheVariants.{Name, Pattern, Neither}
 use Rattle.name.specs.Rules.{kind_of}
+use Rattle.parse.specs.declared.questions.Asked.{Asked}
+use Rattle.parse.specs.declared.questions.Asked.TheVariants.{Source, Destination}
 
 -- the first refusal of two
 infixr 30 ◌or_else◌
@@ -37,6 +39,11 @@ text_refusal first free t =
     at_most_one_star t else first then
     ((free and not (starred t)) or side_passes t) else suc first then
     0
+
+-- the first of the two questions asked of a side
+abbrev pub first_asked : Asked → ℕ
+first_asked Source = 5
+first_asked Destination = 7
 
 -- 5 and 6, or 7 and 8, asked of a side that may be absent
 abbrev pub side_refusal : ℕ → Bool → Option Text → ℕ

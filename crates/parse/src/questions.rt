@@ -1,108 +1,121 @@
-// Document 01's questions on one spec, in their order: a `.._refusal` answers the number of the first that refuses, or 0.
-ghost use Rattle.std.specs.Prelude.{◌≡◌, true, false, not, ◌+◌, ◌≤◌, ◌<◌, length};
+// Document 01's questions on one spec, in their order: a `.._refusal` answers the first that refuses.
+ghost use Rattle.std.specs.Prelude.{◌≡◌, true, false, not, ◌+◌, ◌≤◌, length};
 ghost use Rattle.meaning.specs.Bytes.{◌and◌, ◌or◌, if_given};
 ghost use Rattle.meaning.specs.Names.{name_passes, side_passes};
 ghost use Rattle.meaning.specs.Spec.{◌else◌then◌, push, hash_like, not_hash_like, sides_refusal};
 ghost use Rattle.name.specs.Rules.{kind_of};
+ghost use Rattle.refusal.specs.Numbers.{number_of, number_or0};
 ghost use Rattle.parse.specs.Places.{mode_meant, part_at, side_meant, is_present, Within, SidesWithin, spec_meant};
-ghost use Rattle.parse.specs.Questions.{entry_refusal, shape_refusal, text_refusal, side_refusal, side_name_kind, is_pattern, kinds_agree, negative_refusal};
+ghost use Rattle.parse.specs.Questions.{entry_refusal, shape_refusal, text_refusal, side_refusal, first_asked, side_name_kind, is_pattern, kinds_agree, negative_refusal};
 
 use super::types::{Mode, RefSpec, Side, is_negative, is_present};
 use limits::{HASH_DIGITS, SPEC_BYTES};
 use name::NameKind;
+use refusal::Refusal;
 
-// Questions 18, 1 and 2.
-pub(crate) fn entry_refusal(op: u64, spec: &[u8]) -> u64
-    ensures { result ≡ entry_refusal op spec.now }
-{
-    if 1 < op {
-        return 18;
-    }
-    if SPEC_BYTES < spec.len() {
-        return 1;
-    }
-    if op == 1 {
-        if spec.len() == 0 {
-            return 2;
+// A side that is asked of its stars and of the name rules.
+#[derive(Clone, Copy)]
+enum Asked {
+    Source,
+    Destination,
+}
+
+impl Asked {
+    // Question 5 or 7.
+    fn stars(self) -> Refusal
+        ensures { number_of result ≡ first_asked self }
+    {
+        match self {
+            Asked::Source => Refusal::SourceStars,
+            Asked::Destination => Refusal::DestinationStars,
         }
     }
-    0
+
+    // Question 6 or 8.
+    fn name(self) -> Refusal
+        ensures { number_of result ≡ first_asked self + 1 }
+    {
+        match self {
+            Asked::Source => Refusal::SourceName,
+            Asked::Destination => Refusal::DestinationName,
+        }
+    }
+}
+
+// Questions 18, 1 and 2.
+#[tactic(auto, using(std::proofs::lemmas::Bool::Decides::nat_tests), unfolding(crate::specs::Questions::entry_refusal))]
+pub(crate) fn entry_refusal(op: u64, spec: &[u8]) -> Result<(), Refusal>
+    ensures { number_or0 result ≡ entry_refusal op spec.now }
+{
+    if 1 < op {
+        return Err(Refusal::UnknownOperation);
+    }
+    if SPEC_BYTES < spec.len() {
+        return Err(Refusal::SpecTooLong);
+    }
+    if op == 1 && spec.is_empty() {
+        return Err(Refusal::Empty);
+    }
+    Ok(())
 }
 
 // Questions 3 and 4.
-fn shape_refusal(op: u64, colon: bool, m: Mode, src: Side, dst: Side) -> u64
-    ensures { result ≡ shape_refusal op colon (mode_meant m) (is_present src) (is_present dst) }
+#[tactic(auto, using(std::proofs::lemmas::Bool::Decides::nat_tests), unfolding(crate::specs::Questions::shape_refusal))]
+fn shape_refusal(op: u64, colon: bool, m: Mode, src: Side, dst: Side) -> Result<(), Refusal>
+    ensures { number_or0 result ≡ shape_refusal op colon (mode_meant m) (is_present src) (is_present dst) }
 {
-    if colon {
-        if is_negative(m) {
-            return 3;
-        }
-        if op == 1 {
-            if is_present(src) {
-                if !is_present(dst) {
-                    return 4;
-                }
-            }
-        }
+    if colon && is_negative(m) {
+        return Err(Refusal::NegativeWithDestination);
     }
-    0
+    if colon && op == 1 && is_present(src) && !is_present(dst) {
+        return Err(Refusal::PushToEmpty);
+    }
+    Ok(())
 }
 
 // Question 6 or 8 of a text without a star, which a free one skips.
-fn name_refusal(number: u64, free: bool, t: &[u8]) -> u64
-    ensures { result ≡ ((free or name_passes t.now) else number then 0) }
+fn name_refusal(asked: Asked, free: bool, t: &[u8]) -> Result<(), Refusal>
+    ensures { number_or0 result ≡ ((free or name_passes t.now) else first_asked asked + 1 then 0) }
 {
-    if free {
-        return 0;
+    if free || name::name_partial(t) {
+        Ok(())
+    } else {
+        Err(asked.name())
     }
-    if name::name_partial(t) {
-        return 0;
-    }
-    number
 }
 
 // Question 6 or 8 of a pattern.
-fn pattern_refusal(number: u64, t: &[u8]) -> u64
-    ensures { result ≡ (side_passes t.now else number then 0) }
+fn pattern_refusal(asked: Asked, t: &[u8]) -> Result<(), Refusal>
+    ensures { number_or0 result ≡ (side_passes t.now else first_asked asked + 1 then 0) }
 {
     if name::pattern(t) {
-        return 0;
-    }
-    number
-}
-
-// Questions 5 and 6, or 7 and 8, of a text: `first` for two stars or more, the next number where the name rules are broken.
-fn text_refusal(first: u64, free: bool, t: &[u8]) -> u64
-    requires { first < 100 }
-    ensures { result ≡ text_refusal first free t.now }
-{
-    let next = first + 1;
-    let stars = text::count(b'*', t);
-    match stars {
-        0 => name_refusal(next, free, t),
-        1 => pattern_refusal(next, t),
-        _ => first,
+        Ok(())
+    } else {
+        Err(asked.name())
     }
 }
 
-// Questions 5 and 6, or 7 and 8, of the n bytes that begin at `at`.
-fn part_refusal(first: u64, free: bool, spec: &[u8], at: usize, n: usize) -> u64
-    requires { (first < 100) × (at + n ≤ length spec.now) }
-    ensures { result ≡ text_refusal first free (part_at spec.now at n) }
+// Questions 5 and 6, or 7 and 8, of a text: of its stars, where it has two or more, else of the name rules.
+#[tactic(auto, using(crate::proofs::Sides::text_plain, crate::proofs::Sides::text_pattern, crate::proofs::Sides::text_stars))]
+fn text_refusal(asked: Asked, free: bool, t: &[u8]) -> Result<(), Refusal>
+    ensures { number_or0 result ≡ text_refusal (first_asked asked) free t.now }
 {
-    let end = at + n;
-    text_refusal(first, free, &spec[at..end])
+    match text::count(b'*', t) {
+        0 => name_refusal(asked, free, t),
+        1 => pattern_refusal(asked, t),
+        _ => Err(asked.stars()),
+    }
 }
 
 // Questions 5 and 6, or 7 and 8, of a side; an absent one and `HEAD` pass.
-fn side_refusal(first: u64, free: bool, spec: &[u8], side: Side) -> u64
-    requires { (first < 100) × Within (length spec.now) side }
-    ensures { result ≡ side_refusal first free (side_meant spec.now side) }
+#[tactic(auto, using(crate::proofs::Sides::head_passes))]
+fn side_refusal(asked: Asked, free: bool, spec: &[u8], side: Side) -> Result<(), Refusal>
+    requires { Within (length spec.now) side }
+    ensures { number_or0 result ≡ side_refusal (first_asked asked) free (side_meant spec.now side) }
 {
     match side {
-        Side::Absent => 0,
-        Side::Part(at, n) => part_refusal(first, free, spec, at, n),
-        Side::Head => 0,
+        Side::Absent | Side::Head => Ok(()),
+        Side::Part(at, n) => text_refusal(asked, free, &spec[at..at + n]),
     }
 }
 
@@ -110,42 +123,36 @@ fn side_refusal(first: u64, free: bool, spec: &[u8], side: Side) -> u64
 fn skips_rules(op: u64, dst: Side) -> bool
     ensures { result ≡ (push op and is_present dst) }
 {
-    if op == 1 {
-        return is_present(dst);
-    }
-    false
-}
-
-// What the n bytes that begin at `at` are by the name rules.
-fn part_kind(spec: &[u8], at: usize, n: usize) -> NameKind
-    requires { at + n ≤ length spec.now }
-    ensures { result ≡ kind_of (part_at spec.now at n) }
-{
-    let end = at + n;
-    name::kind(&spec[at..end])
+    op == 1 && is_present(dst)
 }
 
 // What a side is by the name rules; an absent one counts as a name, and `HEAD` is one.
+#[tactic(auto, using(crate::proofs::Sides::kind_of_head))]
 fn side_kind(spec: &[u8], side: Side) -> NameKind
     requires { Within (length spec.now) side }
     ensures { result ≡ side_name_kind (side_meant spec.now side) }
 {
     match side {
-        Side::Absent => NameKind::Name,
-        Side::Part(at, n) => part_kind(spec, at, n),
-        Side::Head => NameKind::Name,
+        Side::Absent | Side::Head => NameKind::Name,
+        Side::Part(at, n) => name::kind(&spec[at..at + n]),
     }
 }
 
 // Questions 5 and 6, or 7 and 8, of a side of this kind: only what is neither name nor pattern is asked them one by one.
-fn kind_refusal(first: u64, free: bool, kind: NameKind, spec: &[u8], side: Side) -> u64
-    requires { (first < 100) × Within (length spec.now) side × (kind ≡ side_name_kind (side_meant spec.now side)) }
-    ensures { result ≡ side_refusal first free (side_meant spec.now side) }
+#[tactic(auto, using(crate::proofs::Sides::name_kind_passes, crate::proofs::Sides::pattern_kind_passes))]
+fn kind_refusal(
+    asked: Asked,
+    free: bool,
+    kind: NameKind,
+    spec: &[u8],
+    side: Side,
+) -> Result<(), Refusal>
+    requires { Within (length spec.now) side × (kind ≡ side_name_kind (side_meant spec.now side)) }
+    ensures { number_or0 result ≡ side_refusal (first_asked asked) free (side_meant spec.now side) }
 {
     match kind {
-        NameKind::Name => 0,
-        NameKind::Pattern => 0,
-        NameKind::Neither => side_refusal(first, free, spec, side),
+        NameKind::Name | NameKind::Pattern => Ok(()),
+        NameKind::Neither => side_refusal(asked, free, spec, side),
     }
 }
 
@@ -153,112 +160,76 @@ fn kind_refusal(first: u64, free: bool, kind: NameKind, spec: &[u8], side: Side)
 fn is_pattern(kind: NameKind) -> bool
     ensures { result ≡ is_pattern kind }
 {
-    match kind {
-        NameKind::Name => false,
-        NameKind::Pattern => true,
-        NameKind::Neither => false,
-    }
+    matches!(kind, NameKind::Pattern)
 }
 
 // A push without destination.
 fn one_sided(op: u64, dst: Side) -> bool
     ensures { result ≡ (push op and not (is_present dst)) }
 {
-    if op == 1 {
-        return !is_present(dst);
-    }
-    false
+    op == 1 && !is_present(dst)
 }
 
 // Question 9 of sides that passed 5 to 8: both are patterns or neither, asked unless negative or a push without destination.
+#[tactic(auto, using(std::proofs::lemmas::Bool::Decides::nat_tests), unfolding(crate::specs::Questions::kinds_agree))]
 fn stars_agree(op: u64, m: Mode, dst: Side, source: NameKind, destination: NameKind) -> bool
     ensures { result ≡ kinds_agree op (mode_meant m) (is_present dst) source destination }
 {
-    if is_negative(m) {
-        return true;
-    }
-    if one_sided(op, dst) {
-        return true;
-    }
-    if is_pattern(source) {
-        return is_pattern(destination);
-    }
-    !is_pattern(destination)
+    is_negative(m) || one_sided(op, dst) || is_pattern(source) == is_pattern(destination)
 }
 
 // Forty or more bytes, all hexadecimal digits.
+#[tactic(auto, using(std::proofs::lemmas::Bool::Decides::nat_tests), unfolding(meaning::specs::Spec::hash_like))]
 fn looks_like_object_hash(t: &[u8]) -> bool
     ensures { result ≡ hash_like t.now }
 {
-    if t.len() < HASH_DIGITS {
-        return false;
-    }
-    hex_digits::all_hex(t)
-}
-
-// The n bytes that begin at `at` look like an object hash.
-fn part_like_hash(spec: &[u8], at: usize, n: usize) -> bool
-    requires { at + n ≤ length spec.now }
-    ensures { result ≡ hash_like (part_at spec.now at n) }
-{
-    let end = at + n;
-    looks_like_object_hash(&spec[at..end])
+    HASH_DIGITS <= t.len() && hex_digits::all_hex(t)
 }
 
 // A source looks like an object hash, which question 11 refuses.
+#[tactic(auto, unfolding(meaning::specs::Spec::hash_like, meaning::specs::Spec::not_hash_like))]
 fn source_like_hash(spec: &[u8], src: Side) -> bool
     requires { Within (length spec.now) src }
     ensures { not result ≡ if_given not_hash_like (side_meant spec.now src) }
 {
     match src {
-        Side::Absent => false,
-        Side::Part(at, n) => part_like_hash(spec, at, n),
-        Side::Head => false,
+        Side::Absent | Side::Head => false,
+        Side::Part(at, n) => looks_like_object_hash(&spec[at..at + n]),
     }
 }
 
 // Questions 10 and 11, asked of a negative spec.
-fn negative_refusal(spec: &[u8], m: Mode, src: Side) -> u64
+#[tactic(auto, using(crate::proofs::Parts::present_meant), unfolding(crate::specs::Questions::negative_refusal))]
+fn negative_refusal(spec: &[u8], m: Mode, src: Side) -> Result<(), Refusal>
     requires { Within (length spec.now) src }
-    ensures { result ≡ negative_refusal (mode_meant m) (side_meant spec.now src) }
+    ensures { number_or0 result ≡ negative_refusal (mode_meant m) (side_meant spec.now src) }
 {
     if !is_negative(m) {
-        return 0;
+        return Ok(());
     }
     if !is_present(src) {
-        return 10;
+        return Err(Refusal::NegativeEmpty);
     }
     if source_like_hash(spec, src) {
-        return 11;
+        return Err(Refusal::NegativeObjectHash);
     }
-    0
+    Ok(())
 }
 
 // Questions 3 to 11.
-pub(crate) fn sides_refusal(op: u64, colon: bool, spec: &[u8], r: RefSpec) -> u64
+#[tactic(auto, using(crate::proofs::Order::sides_asked, crate::proofs::Order::stop_at, crate::proofs::Order::go_on, crate::proofs::Order::stars_are))]
+pub(crate) fn sides_refusal(op: u64, colon: bool, spec: &[u8], r: RefSpec) -> Result<(), Refusal>
     requires { SidesWithin (length spec.now) r }
-    ensures { result ≡ sides_refusal op colon (spec_meant spec.now r) }
+    ensures { number_or0 result ≡ sides_refusal op colon (spec_meant spec.now r) }
 {
-    let m = r.mode;
-    let src = r.src;
-    let dst = r.dst;
-    let shape = shape_refusal(op, colon, m, src, dst);
-    if shape != 0 {
-        return shape;
+    shape_refusal(op, colon, r.mode, r.src, r.dst)?;
+    let free = skips_rules(op, r.dst);
+    let source = side_kind(spec, r.src);
+    kind_refusal(Asked::Source, free, source, spec, r.src)?;
+    let destination = side_kind(spec, r.dst);
+    kind_refusal(Asked::Destination, false, destination, spec, r.dst)?;
+    if !stars_agree(op, r.mode, r.dst, source, destination) {
+        return Err(Refusal::PatternUnbalanced);
     }
-    let free = skips_rules(op, dst);
-    let source = side_kind(spec, src);
-    let of_source = kind_refusal(5, free, source, spec, src);
-    if of_source != 0 {
-        return of_source;
-    }
-    let destination = side_kind(spec, dst);
-    let of_destination = kind_refusal(7, false, destination, spec, dst);
-    if of_destination != 0 {
-        return of_destination;
-    }
-    if !stars_agree(op, m, dst, source, destination) {
-        return 9;
-    }
-    negative_refusal(spec, m, src)
+    negative_refusal(spec, r.mode, r.src)
 }

@@ -17,17 +17,15 @@ use Rattle.promises.proofs.Laws.{same-is, same_refl}
 use Rattle.text.proofs.Rests.{rest-cons, rest_part}
 use Rattle.parse.specs.declared.types.Side.{Side}
 use Rattle.parse.specs.declared.types.Side.TheVariants.{Absent, Part, Head}
-use Rattle.parse.specs.declared.Parsed.{Parsed}
-use Rattle.parse.specs.declared.Parsed.TheVariants as reading
+use Rattle.std.specs.Prelude.{Result, Ok, Err}
+use Rattle.refusal.specs.declared.Refusal.{Refusal}
+use Rattle.refusal.specs.Numbers.{number_of}
+use Rattle.parse.specs.declared.types.RefSpec.{RefSpec}
 use Rattle.parse.specs.Places.{part_at, side_meant, Within, spec_meant, parsed}
 use Rattle.parse.proofs.Parts.{part_of, part_length}
 use Rattle.parse.proofs.Answers.{read-accepted, read-refused, read-within}
 use Rattle.refspec.specs.declared.instruction.Instruction.{Instruction}
 use Rattle.refspec.specs.declared.instruction.Instruction.TheVariants.{FetchAndUpdate, PushMatching}
-use Rattle.refspec.specs.declared.spec.Instructed.{Instructed}
-use Rattle.refspec.specs.declared.spec.Instructed.TheVariants as instructed-as
-use Rattle.refspec.specs.declared.spec.Prefixed.{Prefixed}
-use Rattle.refspec.specs.declared.spec.Prefixed.TheVariants as prefixed-as
 use Rattle.refspec.specs.Instructions.{instruction_meant, instruction_places, instructed_by, instructed_places}
 use Rattle.refspec.specs.Prefixes.{remote_place, prefix_at, prefix_place, prefixed_by, prefixed_places}
 use Rattle.refspec.proofs.Instructions.{instruction-meant}
@@ -91,28 +89,28 @@ record PrefixRead (op : ℕ) (t : Text) (side : Side) : Type 0 where
   is : (s : Spec) → read_spec op t ≡ accepted s → side_meant t side ≡ prefix op s
 
 -- a refusal, of a spec that was not accepted
-pub no-prefix : (op : ℕ) (t : Text) (p : Prefixed) → p ≡ prefixed_places op t → (n : ℕ) → p ≡ prefixed-as.Refused n → (told : Text) (at : ℕ) (s : Spec) → read_spec op t ≡ accepted s → Differs ≡ field_at told at (prefix_bytes (prefix op s))
+pub no-prefix : (op : ℕ) (t : Text) (p : Result Side Refusal) → p ≡ prefixed_places op t → (n : Refusal) → p ≡ Err n → (told : Text) (at : ℕ) (s : Spec) → read_spec op t ≡ accepted s → Differs ≡ field_at told at (prefix_bytes (prefix op s))
 unfolding prefixed_places
 no-prefix op t p ep n e told at s h = absurd (go (parsed op t) refl (sym e ∙ ep))
   where
-    go : (a : Parsed) → a ≡ parsed op t → prefixed-as.Refused n ≡ prefixed_by op t a → ⊥
-    go (reading.Refused m) ea q = let g = read-refused op t (reading.Refused m) ea m refl in let z : ◌≡◌ {A = ℕ} 0 1 = cc in omega arith
-    go (reading.Spec r) ea q = let z : ◌≡◌ {A = ℕ} 0 1 = cc in omega arith
+    go : (a : Result RefSpec Refusal) → a ≡ parsed op t → Err n ≡ prefixed_by op t a → ⊥
+    go (Err m) ea q = let g = read-refused op t (Err m) ea m refl in cc
+    go (Ok r) ea q = cc
 
-module _ (op : ℕ) (t : Text) (p : Prefixed) (ep : p ≡ prefixed_places op t) (side : Side) (e : p ≡ prefixed-as.Prefix side) where
+module _ (op : ℕ) (t : Text) (p : Result Side Refusal) (ep : p ≡ prefixed_places op t) (side : Side) (e : p ≡ Ok side) where
   prefix-read : PrefixRead op t side
   unfolding prefixed_places prefix
   prefix-read = go (parsed op t) refl (sym e ∙ ep)
     where
-      go : (a : Parsed) → a ≡ parsed op t → prefixed-as.Prefix side ≡ prefixed_by op t a → PrefixRead op t side
-      go (reading.Refused n) ea q = absurd (let z : ◌≡◌ {A = ℕ} 0 1 = cc in omega arith)
-      go (reading.Spec r) ea q =
+      go : (a : Result RefSpec Refusal) → a ≡ parsed op t → Ok side ≡ prefixed_by op t a → PrefixRead op t side
+      go (Err n) ea q = absurd cc
+      go (Ok r) ea q =
           let x : side ≡ prefix_place t (remote_place op r) = cc in
-          let w : Within (length t) (remote_place op r) = remote-within op (length t) r (remote_place op r) (read-within op t (reading.Spec r) ea r refl) refl in
+          let w : Within (length t) (remote_place op r) = remote-within op (length t) r (remote_place op r) (read-within op t (Ok r) ea r refl) refl in
           record {
             within = rw x (place-within t (remote_place op r) w);
             is = λ s h.
-                let y : spec_meant t r ≡ s = let g = read-accepted op t (reading.Spec r) ea r refl in cc in
+                let y : spec_meant t r ≡ s = let g = read-accepted op t (Ok r) ea r refl in cc in
                 ap (side_meant t) x ∙ prefix-meant t (remote_place op r) w ∙ ap prefix_of (remote-meant op t r) ∙ ap (prefix op) y;
           }
 
@@ -192,25 +190,25 @@ module _ (told : Text) (at : ℕ) (i : Instruction) (r : Next) (f : (t : Text) �
         let s = w.accepts.spec in
         whole false (field-unlike told at (instruction_bytes (instruction_meant t i)) r (f t) e (sized (canonical_text op s) ++ (prefix_bytes (prefix op s) ++ prefixes_bytes (expand_prefixes op s))))
 
-module _ (op : ℕ) (t : Text) (q : Instructed) (eq : q ≡ instructed_places op t) where
+module _ (op : ℕ) (t : Text) (q : Result Instruction Refusal) (eq : q ≡ instructed_places op t) where
   -- an instruction that is answered, and the spec that was read
-  pub answer-instructs : (i : Instruction) → q ≡ instructed-as.To i → Instructs op t i
+  pub answer-instructs : (i : Instruction) → q ≡ Ok i → Instructs op t i
   unfolding instructed_places
   answer-instructs i e = go (parsed op t) refl (sym e ∙ eq)
     where
-      go : (a : Parsed) → a ≡ parsed op t → instructed-as.To i ≡ instructed_by op a → Instructs op t i
-      go (reading.Refused n) ea z = absurd (let w : ◌≡◌ {A = ℕ} 0 1 = cc in omega arith)
-      go (reading.Spec p) ea z =
+      go : (a : Result RefSpec Refusal) → a ≡ parsed op t → Ok i ≡ instructed_by op a → Instructs op t i
+      go (Err n) ea z = absurd cc
+      go (Ok p) ea z =
           let x : i ≡ instruction_places op p = cc in
-          record { accepts = record { spec = spec_meant t p; reads = read-accepted op t (reading.Spec p) ea p refl }; meant = ap (instruction_meant t) x ∙ instruction-meant op t p }
+          record { accepts = record { spec = spec_meant t p; reads = read-accepted op t (Ok p) ea p refl }; meant = ap (instruction_meant t) x ∙ instruction-meant op t p }
 
-  pub answer-refused : (told : Text) (at : ℕ) (r : Bool) (n : ℕ) → q ≡ instructed-as.Refused n → r ≡ same (0 ∷ []) (drop at told) → r ≡ same (answer_bytes op (read_spec op t)) (drop at told)
+  pub answer-refused : (told : Text) (at : ℕ) (r : Bool) (n : Refusal) → q ≡ Err n → r ≡ same (0 ∷ []) (drop at told) → r ≡ same (answer_bytes op (read_spec op t)) (drop at told)
   unfolding instructed_places
   answer-refused told at r n e f = rw (go (parsed op t) refl (sym e ∙ eq)) f
     where
-      go : (a : Parsed) → a ≡ parsed op t → instructed-as.Refused n ≡ instructed_by op a → read_spec op t ≡ refused n none
-      go (reading.Refused m) ea z = let x : m ≡ n = cc in rw (← x) (read-refused op t (reading.Refused m) ea m refl)
-      go (reading.Spec p) ea z = absurd (let w : ◌≡◌ {A = ℕ} 0 1 = cc in omega arith)
+      go : (a : Result RefSpec Refusal) → a ≡ parsed op t → Err n ≡ instructed_by op a → read_spec op t ≡ refused (number_of n) none
+      go (Err m) ea z = let x : m ≡ n = cc in rw (← x) (read-refused op t (Err m) ea m refl)
+      go (Ok p) ea z = absurd cc
 
 -- ---- the record
 

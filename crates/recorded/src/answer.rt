@@ -14,7 +14,7 @@ use super::list::list_field;
 use expand::expand_prefixes;
 use parse::types::Side;
 use refspec::instruction::Instruction;
-use refspec::spec::{Instructed, Prefixed, instruction, prefix};
+use refspec::spec::{instruction, prefix};
 use write::to_bstring;
 
 // The number of an instruction's kind.
@@ -147,8 +147,8 @@ fn prefix_field(told: &[u8], at: usize, op: u64, spec: &[u8]) -> Next
     ensures { (s : Spec) → read_spec op spec.now ≡ accepted s → result ≡ field_at told.now at (prefix_bytes (Meaning·prefix op s)) }
 {
     match prefix(op, spec) {
-        Prefixed::Prefix(side) => side_field(told, at, spec, side),
-        Prefixed::Refused(_) => Next::Differs,
+        Ok(side) => side_field(told, at, spec, side),
+        Err(_) => Next::Differs,
     }
 }
 
@@ -237,7 +237,7 @@ pub(crate) fn answer_agrees(
     ensures { result ≡ same (answer_bytes op (read_spec op spec.now)) (drop at told.now) }
 {
     match instruction(op, spec) {
-        Instructed::To(i) => accepted_agrees(told, at, op, spec, i, scratch),
-        Instructed::Refused(_) => refused_agrees(told, at),
+        Ok(i) => accepted_agrees(told, at, op, spec, i, scratch),
+        Err(_) => refused_agrees(told, at),
     }
 }

@@ -4,6 +4,7 @@ use native.Mathlib.Omega.{arith}
 use mathlib.Core.Path.{◌≡◌, refl, sym, ap, ◌∙◌}
 use mathlib.Core.List.{[], ◌∷◌}
 use mathlib.Core.Option.{some}
+use Rattle.std.specs.Prelude.{Result, Ok, Err}
 use lib.Dec.{lit≤}
 use Rattle.meaning.specs.Bytes.{bytes}
 use Rattle.meaning.specs.Spec.{accepted}
@@ -16,8 +17,8 @@ use Rattle.parse.specs.declared.types.Side.{Side}
 use Rattle.parse.specs.declared.types.Side.TheVariants.{Absent, Part, Head}
 use Rattle.parse.specs.Places.{supplied_place, named_place, places_at, places_of, parsed}
 use Rattle.refspec.specs.declared.instruction.Instruction.TheVariants.{FetchOnly, FetchExclude, FetchAndUpdate, PushAllMatchingBranches, PushDelete, PushMatching, PushExclude}
-use Rattle.refspec.specs.declared.spec.Instructed.{Instructed}
-use Rattle.refspec.specs.declared.spec.Instructed.TheVariants.{To, Refused}
+use Rattle.refusal.specs.declared.Refusal.{Refusal}
+use Rattle.refspec.specs.declared.instruction.Instruction.{Instruction}
 use Rattle.refspec.specs.Instructions.{fetch_places, push_places, instruction_places, instructed_places}
 use Rattle.refspec.specs.Keys.{KeysMeantExactly, KeysMeantBack, KeysByPlaces, KeysMeant}
 use Rattle.refspec.proofs.Answers.{instructed-means}
@@ -38,15 +39,15 @@ side_start Absent = 0
 side_start (Part start length) = start
 side_start Head = 0
 
-abbrev destination_start : Instructed → ℕ
-destination_start (To (PushMatching src dst force)) = side_start dst
-destination_start (To (FetchOnly src)) = 0
-destination_start (To (FetchExclude src)) = 0
-destination_start (To (FetchAndUpdate src dst force)) = 0
-destination_start (To (PushAllMatchingBranches force)) = 0
-destination_start (To (PushDelete dst)) = 0
-destination_start (To (PushExclude src)) = 0
-destination_start (Refused n) = 0
+abbrev destination_start : Result Instruction Refusal → ℕ
+destination_start (Ok (PushMatching src dst force)) = side_start dst
+destination_start (Ok (FetchOnly src)) = 0
+destination_start (Ok (FetchExclude src)) = 0
+destination_start (Ok (FetchAndUpdate src dst force)) = 0
+destination_start (Ok (PushAllMatchingBranches force)) = 0
+destination_start (Ok (PushDelete dst)) = 0
+destination_start (Ok (PushExclude src)) = 0
+destination_start (Err q) = 0
 
 -- push `a` has its destination at 0, and `a:a` at 2
 not-by-places : KeysByPlaces → ⊥

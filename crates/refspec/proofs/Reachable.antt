@@ -2,20 +2,19 @@
 use Prim.Native.Nat.{ℕ, zero, suc, ◌≤◌}
 use native.Mathlib.Omega.{arith}
 use mathlib.Core.Path.{◌≡◌, refl, sym}
+use Rattle.std.specs.Prelude.{Result, Ok, Err}
 use mathlib.Core.Bool.{Bool, true, false, cond}
 use Rattle.meaning.specs.Bytes.{Text}
 use Rattle.meaning.specs.Spec.{is_negative, is_force, push}
 use Rattle.promises.proofs.Accepted.{read-is-accepted}
 use Rattle.parse.specs.declared.types.Side.{Side}
 use Rattle.parse.specs.declared.types.RefSpec.{RefSpec}
-use Rattle.parse.specs.declared.Parsed.{Parsed}
-use Rattle.parse.specs.declared.Parsed.TheVariants.{Spec, Refused}
+use Rattle.refusal.specs.declared.Refusal.{Refusal}
 use Rattle.parse.specs.Places.{mode_meant, is_present, spec_meant, parsed}
 use Rattle.parse.proofs.Answers.{read-accepted}
 use Rattle.parse.proofs.Reachable.{fetch-has-source, negative-has-source}
 use Rattle.refspec.specs.declared.instruction.Instruction.{Instruction}
 use Rattle.refspec.specs.declared.instruction.Instruction.TheVariants.{FetchOnly, FetchExclude, FetchAndUpdate, PushAllMatchingBranches, PushDelete, PushMatching, PushExclude}
-use Rattle.refspec.specs.declared.spec.Instructed.TheVariants.{To}
 use Rattle.refspec.specs.Instructions.{fetch_places, push_places, instruction_places, SidesPresent, instructed_by, instructed_places}
 
 module _ (f : Bool) (src dst : Side) where
@@ -42,11 +41,11 @@ module _ (f : Bool) (src dst : Side) where
 -- an operation that is not push is fetch
 is-fetch : (op : ℕ) → op ≤ 1 → push op ≡ false → op ≡ 0
 is-fetch zero h e = refl
-is-fetch (suc zero) h e = absurd (let z : ◌≡◌ {A = ℕ} 0 1 = cc in omega arith)
+is-fetch (suc zero) h e = absurd cc
 is-fetch (suc (suc k)) h e = absurd (omega arith)
 
 -- the instruction of an accepted spec carries sides that are there
-module _ (op : ℕ) (t : Text) (r : RefSpec) (e : parsed op t ≡ Spec r) where
+module _ (op : ℕ) (t : Text) (r : RefSpec) (e : parsed op t ≡ Ok r) where
   at-most-push : op ≤ 1
   at-most-push = (read-is-accepted op t (spec_meant t r) (read-accepted op t (parsed op t) refl r e)).operation
 
@@ -61,10 +60,10 @@ module _ (op : ℕ) (t : Text) (r : RefSpec) (e : parsed op t ≡ Spec r) where
       go false false ea eb = fetch-present (is_force (mode_meant r.mode)) r.src r.dst (fetch-has-source op t r e (is-fetch op at-most-push eb))
 
 -- every instruction that is answered carries sides that are there
-pub instructed-present : (op : ℕ) (t : Text) (i : Instruction) → instructed_places op t ≡ To i → SidesPresent i
+pub instructed-present : (op : ℕ) (t : Text) (i : Instruction) → instructed_places op t ≡ Ok i → SidesPresent i
 unfolding instructed_places
 instructed-present op t i = go (parsed op t) refl
   where
-    go : (p : Parsed) → parsed op t ≡ p → instructed_by op p ≡ To i → SidesPresent i
-    go (Spec r) ep h = let s : instruction_places op r ≡ i = cc in rw (sym s) (places-present op t r ep)
-    go (Refused n) ep h = absurd (let z : ◌≡◌ {A = ℕ} 0 1 = cc in omega arith)
+    go : (p : Result RefSpec Refusal) → parsed op t ≡ p → instructed_by op p ≡ Ok i → SidesPresent i
+    go (Ok r) ep h = let s : instruction_places op r ≡ i = cc in rw (sym s) (places-present op t r ep)
+    go (Err q) ep h = absurd cc

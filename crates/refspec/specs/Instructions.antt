@@ -1,5 +1,5 @@
 -- The instruction of a spec as places, and the instruction that it means.
-use Rattle.std.specs.Prelude.{ℕ, ◌≡◌, Bool, true, cond}
+use Rattle.std.specs.Prelude.{ℕ, ◌≡◌, Bool, true, cond, Result, Ok, Err}
 use Rattle.std.proofs.Math.Option.{none}
 use Rattle.meaning.specs.Bytes.{Text, or_empty}
 use Rattle.meaning.specs.Spec.{Answer, accepted, refused, is_negative, is_force, push}
@@ -8,10 +8,8 @@ use Rattle.parse.specs.declared.types.Side.{Side}
 use Rattle.parse.specs.declared.types.RefSpec.{RefSpec}
 use Rattle.refspec.specs.declared.instruction.Instruction.{Instruction}
 use Rattle.refspec.specs.declared.instruction.Instruction.TheVariants.{FetchOnly, FetchExclude, FetchAndUpdate, PushAllMatchingBranches, PushDelete, PushMatching, PushExclude}
-use Rattle.parse.specs.declared.Parsed.{Parsed}
-use Rattle.parse.specs.declared.Parsed.TheVariants as reading
-use Rattle.refspec.specs.declared.spec.Instructed.{Instructed}
-use Rattle.refspec.specs.declared.spec.Instructed.TheVariants as answer
+use Rattle.refusal.specs.declared.Refusal.{Refusal}
+use Rattle.refusal.specs.Numbers.{number_of}
 use Rattle.parse.specs.Places.{mode_meant, side_meant, is_present, parsed}
 
 -- a fetch by its sides: no destination is fetch-only
@@ -55,15 +53,15 @@ instruction_meant t (PushMatching src dst force) = meaning.push_matching (side_t
 instruction_meant t (PushExclude src) = meaning.push_exclude (side_text t src)
 
 -- an answer of reading, as an instruction
-abbrev pub instructed_by : ℕ → Parsed → Instructed
-instructed_by op (reading.Spec r) = answer.To (instruction_places op r)
-instructed_by op (reading.Refused n) = answer.Refused n
+abbrev pub instructed_by : ℕ → Result RefSpec Refusal → Result Instruction Refusal
+instructed_by op (Ok r) = Ok (instruction_places op r)
+instructed_by op (Err q) = Err q
 
 -- what a spec instructs
-unfoldable pub instructed_places : ℕ → Text → Instructed
+unfoldable pub instructed_places : ℕ → Text → Result Instruction Refusal
 instructed_places op t = instructed_by op (parsed op t)
 
 -- what an answer means: the instruction, or the number of the question that refuses
-abbrev pub instructed_meant : Text → Instructed → Answer meaning.Instruction
-instructed_meant t (answer.To i) = accepted (instruction_meant t i)
-instructed_meant t (answer.Refused n) = refused n none
+abbrev pub instructed_meant : Text → Result Instruction Refusal → Answer meaning.Instruction
+instructed_meant t (Ok i) = accepted (instruction_meant t i)
+instructed_meant t (Err q) = refused (number_of q) none

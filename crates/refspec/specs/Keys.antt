@@ -1,7 +1,7 @@
 -- Calls for the instruction and calls for the canonical text, side by side: document 02, W13. By its contract a call for the instruction
 -- answers places, `instructed_places`; what they mean is an instruction, `instructed_meant`. The words of calls are those of `promises`,
 -- and so are the statements on canonical texts alone. The proofs stand in proofs/Keys.
-use Rattle.std.specs.Prelude.{ℕ, ◌≤◌, ◌≡◌, ◌↔◌, false}
+use Rattle.std.specs.Prelude.{ℕ, ◌≤◌, ◌≡◌, ◌↔◌, false, Result}
 use Rattle.meaning.specs.Bytes.{Text}
 use Rattle.meaning.specs.Limits.{spec_bytes}
 use Rattle.meaning.specs.Spec.{accepted, Spec, read_spec}
@@ -9,13 +9,14 @@ use Rattle.meaning.specs.Instruction.{instruction}
 use Rattle.meaning.specs.Entries.{to_bstring}
 use Rattle.promises.specs.Terms.{plus_only, OneCall, MetOne, bytes_of}
 use Rattle.promises.specs.KeyCalls.{TwoTold}
-use Rattle.refspec.specs.declared.spec.Instructed.{Instructed}
+use Rattle.refusal.specs.declared.Refusal.{Refusal}
+use Rattle.refspec.specs.declared.instruction.Instruction as code
 use Rattle.refspec.specs.Instructions.{instructed_places, instructed_meant}
 
 -- "For two accepted specs of one operation the texts are equal exactly if the instructions are [..]."
 abbrev pub KeysMeantExactly : Type 0
 KeysMeantExactly =
-    (op : ℕ) (t u : Text) (i j : Instructed) (c d : OneCall)
+    (op : ℕ) (t u : Text) (i j : Result code.Instruction Refusal) (c d : OneCall)
     → i ≡ instructed_places op t
     → j ≡ instructed_places op u
     → TwoTold op t u c d
@@ -24,7 +25,7 @@ KeysMeantExactly =
 -- "Reading a canonical text that fits the limit gives an equal instruction, except for those sources."
 abbrev pub KeysMeantBack : Type 0
 KeysMeantBack =
-    (op : ℕ) (t : Text) (s : Spec) (i k : Instructed) (c : OneCall)
+    (op : ℕ) (t : Text) (s : Spec) (i k : Result code.Instruction Refusal) (c : OneCall)
     → read_spec op t ≡ accepted s
     → i ≡ instructed_places op t
     → MetOne (to_bstring op t) c
@@ -37,7 +38,7 @@ KeysMeantBack =
 -- false: where the texts are equal, the places are
 abbrev pub KeysByPlaces : Type 0
 KeysByPlaces =
-    (op : ℕ) (t u : Text) (i j : Instructed) (c d : OneCall)
+    (op : ℕ) (t u : Text) (i j : Result code.Instruction Refusal) (c d : OneCall)
     → i ≡ instructed_places op t
     → j ≡ instructed_places op u
     → TwoTold op t u c d

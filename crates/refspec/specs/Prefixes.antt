@@ -1,5 +1,5 @@
 -- The prefix of a spec as a place, and the prefix that it means.
-use Rattle.std.specs.Prelude.{ℕ, cond, length}
+use Rattle.std.specs.Prelude.{ℕ, cond, length, Result, Ok, Err}
 use Rattle.std.proofs.Math.Option.{Option, none, some}
 use Rattle.meaning.specs.Bytes.{Text}
 use Rattle.meaning.specs.Spec.{Answer, accepted, refused, is_negative, push}
@@ -7,10 +7,8 @@ use Rattle.meaning.specs.Prefix.{name_prefix}
 use Rattle.parse.specs.declared.types.Side.{Side}
 use Rattle.parse.specs.declared.types.Side.TheVariants.{Absent, Part, Head}
 use Rattle.parse.specs.declared.types.RefSpec.{RefSpec}
-use Rattle.parse.specs.declared.Parsed.{Parsed}
-use Rattle.parse.specs.declared.Parsed.TheVariants as reading
-use Rattle.refspec.specs.declared.spec.Prefixed.{Prefixed}
-use Rattle.refspec.specs.declared.spec.Prefixed.TheVariants as answer
+use Rattle.refusal.specs.declared.Refusal.{Refusal}
+use Rattle.refusal.specs.Numbers.{number_of}
 use Rattle.parse.specs.Places.{mode_meant, part_at, side_meant, parsed}
 
 -- the side that prefixes are taken from: the source in fetch, the destination in push; a negative has none
@@ -34,15 +32,15 @@ prefix_place t (Part at n) = prefix_at at (name_prefix (part_at t at n))
 prefix_place t Head = Head
 
 -- an answer of reading, as a prefix
-abbrev pub prefixed_by : ℕ → Text → Parsed → Prefixed
-prefixed_by op t (reading.Spec r) = answer.Prefix (prefix_place t (remote_place op r))
-prefixed_by op t (reading.Refused n) = answer.Refused n
+abbrev pub prefixed_by : ℕ → Text → Result RefSpec Refusal → Result Side Refusal
+prefixed_by op t (Ok r) = Ok (prefix_place t (remote_place op r))
+prefixed_by op t (Err q) = Err q
 
 -- the prefix of a spec
-unfoldable pub prefixed_places : ℕ → Text → Prefixed
+unfoldable pub prefixed_places : ℕ → Text → Result Side Refusal
 prefixed_places op t = prefixed_by op t (parsed op t)
 
 -- what an answer means: the prefix, if there is one, or the number of the question that refuses
-abbrev pub prefixed_meant : Text → Prefixed → Answer (Option Text)
-prefixed_meant t (answer.Prefix side) = accepted (side_meant t side)
-prefixed_meant t (answer.Refused n) = refused n none
+abbrev pub prefixed_meant : Text → Result Side Refusal → Answer (Option Text)
+prefixed_meant t (Ok side) = accepted (side_meant t side)
+prefixed_meant t (Err q) = refused (number_of q) none

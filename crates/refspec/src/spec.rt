@@ -3,27 +3,14 @@ ghost use Rattle.std.specs.Prelude.{◌≡◌, cond, ◌+◌, ◌≤◌, length}
 ghost use Rattle.meaning.specs.Spec.{is_force};
 ghost use Rattle.meaning.specs.Prefix.{name_prefix};
 ghost use Rattle.meaning.specs.Entries as entries;
-ghost use Rattle.parse.specs.Places.{mode_meant, is_present, part_at, Within, SidesWithin};
+ghost use Rattle.parse.specs.Places.{mode_meant, is_present, part_at, Within};
 ghost use Rattle.refspec.specs.Instructions.{fetch_places, push_places, instruction_places, instructed_places, instructed_meant};
 ghost use Rattle.refspec.specs.Prefixes.{remote_place, length_or0, prefix_at, prefix_place, prefixed_places, prefixed_meant};
 
 use super::instruction::Instruction;
+use parse::parse;
 use parse::types::{Mode, RefSpec, Side, is_negative, is_present};
-use parse::{Parsed, parse};
-
-// The instruction of a spec, or the number of the question that refuses it.
-#[derive(Clone, Copy)]
-pub enum Instructed {
-    To(Instruction),
-    Refused(u64),
-}
-
-// The prefix of a spec, absent where it has none, or the number of the question that refuses it.
-#[derive(Clone, Copy)]
-pub enum Prefixed {
-    Prefix(Side),
-    Refused(u64),
-}
+use refusal::Refusal;
 
 // The mode of `+`.
 fn is_force(m: Mode) -> bool
@@ -165,30 +152,17 @@ pub fn prefix_of(spec: &[u8], side: Side) -> Side
     }
 }
 
-// What a spec instructs, for an operation, 0 fetch or 1 push.
-pub fn instruction(op: u64, spec: &[u8]) -> Instructed
+// What a spec instructs, for an operation, 0 fetch or 1 push, or the question that refuses it.
+pub fn instruction(op: u64, spec: &[u8]) -> Result<Instruction, Refusal>
     ensures { (result ≡ instructed_places op spec.now) × (instructed_meant spec.now result ≡ entries.instructed op spec.now) }
 {
-    match parse(op, spec) {
-        Parsed::Spec(r) => Instructed::To(instruction_of(op, r)),
-        Parsed::Refused(n) => Instructed::Refused(n),
-    }
+    Ok(instruction_of(op, parse(op, spec)?))
 }
 
-// The prefix of a spec that was read.
-fn spec_prefix(op: u64, spec: &[u8], r: RefSpec) -> Side
-    requires { SidesWithin (length spec.now) r }
-    ensures { result ≡ prefix_place spec.now (remote_place op r) }
-{
-    prefix_of(spec, remote(op, r))
-}
-
-// The prefix of a spec, for an operation, 0 fetch or 1 push.
-pub fn prefix(op: u64, spec: &[u8]) -> Prefixed
+// The prefix of a spec, for an operation, 0 fetch or 1 push, absent where it has none, or the question that refuses the spec.
+pub fn prefix(op: u64, spec: &[u8]) -> Result<Side, Refusal>
     ensures { (result ≡ prefixed_places op spec.now) × (prefixed_meant spec.now result ≡ entries.prefixed op spec.now) }
 {
-    match parse(op, spec) {
-        Parsed::Spec(r) => Prefixed::Prefix(spec_prefix(op, spec, r)),
-        Parsed::Refused(n) => Prefixed::Refused(n),
-    }
+    let r = parse(op, spec)?;
+    Ok(prefix_of(spec, remote(op, r)))
 }

@@ -11,8 +11,9 @@ use Rattle.meaning.specs.Spec.{accepted, refused, Spec, read_spec}
 use Rattle.meaning.specs.Number as meaning
 use Rattle.meaning.specs.Lists.{spec_record}
 use Rattle.parse.specs.declared.types.RefSpec.{RefSpec}
-use Rattle.parse.specs.declared.Parsed.{Parsed}
-use Rattle.parse.specs.declared.Parsed.TheVariants as answers
+use Rattle.std.specs.Prelude.{Result, Ok, Err}
+use Rattle.refusal.specs.declared.Refusal.{Refusal}
+use Rattle.refusal.specs.Numbers.{number_of}
 use Rattle.parse.specs.Places.{part_at, SidesWithin, spec_meant, parsed}
 use Rattle.parse.proofs.Parts.{part_length, part_of}
 use Rattle.parse.proofs.Answers.{read-refused, read-accepted, read-within}
@@ -49,14 +50,14 @@ module _ (op j : ℕ) (s : Text) (h : j < spec_count) where
     spec-read x f = rw (lt-ltb j spec_count h, e, f)
 
 -- the answers of `spec_in`
-module _ (op : ℕ) (s : Text) (start len : ℕ) (inside : start + len ≤ length s) (p : Parsed) (ep : p ≡ parsed op (take (start + len - start) (drop start s))) where
+module _ (op : ℕ) (s : Text) (start len : ℕ) (inside : start + len ≤ length s) (p : Result RefSpec Refusal) (ep : p ≡ parsed op (take (start + len - start) (drop start s))) where
   same-part : p ≡ parsed op (part_at s start len)
   same-part = ep ∙ ap (parsed op) (part_of s start len)
 
-  pub spec-turned : (n : ℕ) → p ≡ answers.Refused n → read_spec op (part_at s start len) ≡ refused n none
-  spec-turned n e = read-refused op (part_at s start len) p same-part n e
+  pub spec-turned : (q : Refusal) (n : ℕ) → p ≡ Err q → n ≡ number_of q → read_spec op (part_at s start len) ≡ refused n none
+  spec-turned q n e en = rw en (read-refused op (part_at s start len) p same-part q e)
 
-  module _ (r : RefSpec) (e : p ≡ answers.Spec r) where
+  module _ (r : RefSpec) (e : p ≡ Ok r) where
     pub spec-sides : SidesWithin len r
     spec-sides = rw (part_length s start len inside) at (read-within op (part_at s start len) p same-part r e)
 

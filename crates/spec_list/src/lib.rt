@@ -16,7 +16,6 @@ pub mod table;
 use limits::{SPEC_COUNT, SPEC_LIST_BYTES};
 use list::cursor::{Cursor, Step};
 use list::items::Checked;
-use parse::Parsed;
 use parse::types::{Mode, RefSpec, Side};
 use record::{SpecRecord, record_of};
 
@@ -70,11 +69,11 @@ fn spec_in(op: u64, list: &[u8], start: usize, len: usize, next: Cursor) -> Spec
 {
     let end = start + len;
     match parse::parse(op, &list[start..end]) {
-        Parsed::Spec(r) => {
+        Ok(r) => {
             let spec = shifted(start, len, r);
             SpecStep::Spec { spec, next }
         }
-        Parsed::Refused(n) => SpecStep::Refused(n),
+        Err(q) => SpecStep::Refused(q.number()),
     }
 }
 

@@ -2,7 +2,6 @@
 ghost use Rattle.std.specs.Prelude.{◌≤◌, length};
 ghost use Rattle.meaning.specs.Limits.{program_bytes};
 
-use parse::Parsed;
 use std::io::Write;
 use text_lists::line::{Line, classify, next_line};
 use text_lists::{MARKED, UNKNOWN};
@@ -11,8 +10,8 @@ use text_program::tell_refused;
 // Why a spec is refused; 0: it is not.
 fn spec_reason(op: u64, spec: &[u8]) -> u64 {
     match parse::parse(op, spec) {
-        Parsed::Spec(_) => 0,
-        Parsed::Refused(n) => n,
+        Ok(_) => 0,
+        Err(q) => q.number(),
     }
 }
 

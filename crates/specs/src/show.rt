@@ -5,7 +5,7 @@ use limits::PROGRAM_BYTES;
 use number::Number;
 use parse::types::Side;
 use refspec::instruction::Instruction;
-use refspec::spec::{Instructed, Prefixed, instruction, prefix};
+use refspec::spec::{instruction, prefix};
 use std::io::Write;
 use stdio::say;
 use text_program::output::{say_line, say_text};
@@ -137,8 +137,8 @@ fn show_text<W: Write>(to: &mut W, whole: bool, op: u64, spec: &[u8]) -> bool {
 // Prints the prefix of a spec, if it has one.
 fn show_prefix<W: Write>(to: &mut W, whole: bool, op: u64, spec: &[u8]) -> bool {
     match prefix(op, spec) {
-        Prefixed::Prefix(side) => show_side(to, whole, b"  prefix       ", spec, side),
-        Prefixed::Refused(_) => whole,
+        Ok(side) => show_side(to, whole, b"  prefix       ", spec, side),
+        Err(_) => whole,
     }
 }
 
@@ -245,7 +245,7 @@ pub(crate) fn show_spec<W: Write>(
     spec: &[u8],
 ) -> bool {
     match instruction(op, spec) {
-        Instructed::To(i) => show_numbered(to, whole, number, op, spec, i),
-        Instructed::Refused(_) => whole,
+        Ok(i) => show_numbered(to, whole, number, op, spec, i),
+        Err(_) => whole,
     }
 }

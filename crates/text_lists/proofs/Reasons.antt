@@ -13,9 +13,12 @@ use Rattle.meaning.specs.Limits.{name_bytes, spec_list_bytes, item_list_bytes, s
 use Rattle.meaning.specs.Spec.{◌else◌then◌, spec_refusal}
 use Rattle.meaning.specs.Number.{number_bytes, text_bytes}
 use Rattle.parse.specs.declared.types.RefSpec.{RefSpec}
-use Rattle.parse.specs.declared.Parsed.{Parsed}
-use Rattle.parse.specs.declared.Parsed.TheVariants.{Spec, Refused}
-use Rattle.parse.specs.Places.{places_of, parsed_unless, parsed}
+use Rattle.std.specs.Prelude.{Result, Ok, Err}
+use Rattle.refusal.specs.declared.Refusal.{Refusal}
+use Rattle.refusal.specs.Numbers.{number_of}
+use Rattle.refusal.proofs.Numbers.{number_of-positive}
+use Rattle.parse.specs.Places.{parsed}
+use Rattle.parse.proofs.Answers.{refused-number, accepted-number}
 use Rattle.number.proofs.Bytes.{bytes-few}
 use Rattle.number.proofs.Texts.{text-size}
 use Rattle.text_lists.specs.Gather.{room_reason, spec_reason, name_reason}
@@ -34,28 +37,21 @@ module _ (limit size : ℕ) (within : size ≤ limit) (t : Text) (m : ℕ) (em :
   unfolding room_reason
   room-some h = rw (le-leb (size + length (text_bytes t)) limit (omega (arith, text-size t (length t) refl m em)))
 
--- a spec that its own questions refuse, and one that they accept
-turned : (k n : ℕ) (places : RefSpec) → parsed_unless k places ≡ Refused n → (rest : ℕ) → n ≡ (eqb k 0 else k then rest)
-turned zero n places e rest = absurd (let z : ◌≡◌ {A = ℕ} 0 1 = cc in omega arith)
-turned (suc k) n places e rest = let p : suc k ≡ n = cc in rw (ne_eqb (suc k) 0 (λ z. omega arith)) (sym p)
-
-passed : (k : ℕ) (places r : RefSpec) → parsed_unless k places ≡ Spec r → (rest : ℕ) → rest ≡ (eqb k 0 else k then rest)
-passed zero places r e rest = refl
-passed (suc k) places r e rest = absurd (let z : ◌≡◌ {A = ℕ} 0 1 = cc in omega arith)
-
 module _ (count size : ℕ) (t : Text) where
   pub spec-many : spec_count ≤ count → 14 ≡ spec_reason count size t
   unfolding spec_reason
   spec-many h = rw (le-ltb count spec_count h)
 
-  module _ (few : count < spec_count) (p : Parsed) (ep : p ≡ parsed 0 t) where
-    pub spec-turned : (n : ℕ) → p ≡ Refused n → n ≡ spec_reason count size t
-    unfolding spec_reason parsed
-    spec-turned n e = rw (lt-ltb count spec_count few) (turned (spec_refusal 0 t) n (places_of 0 t) (sym ep ∙ e) (room_reason spec_list_bytes size t))
+  module _ (few : count < spec_count) (p : Result RefSpec Refusal) (ep : p ≡ parsed 0 t) where
+    -- its own questions refuse it
+    pub spec-turned : (q : Refusal) (n : ℕ) → p ≡ Err q → n ≡ number_of q → n ≡ spec_reason count size t
+    unfolding spec_reason
+    spec-turned q n e en = rw (lt-ltb count spec_count few, refused-number 0 t p ep q e, ne_eqb (number_of q) 0 (λ z. omega (arith, number_of-positive q))) en
 
-    pub spec-asked : (r : RefSpec) → p ≡ Spec r → (q : ℕ) → q ≡ room_reason spec_list_bytes size t → q ≡ spec_reason count size t
-    unfolding spec_reason parsed
-    spec-asked r e q f = rw (lt-ltb count spec_count few) (f ∙ passed (spec_refusal 0 t) (places_of 0 t) r (sym ep ∙ e) (room_reason spec_list_bytes size t))
+    -- they accept it
+    pub spec-asked : (r : RefSpec) → p ≡ Ok r → (q : ℕ) → q ≡ room_reason spec_list_bytes size t → q ≡ spec_reason count size t
+    unfolding spec_reason
+    spec-asked r e q f = rw (lt-ltb count spec_count few, accepted-number 0 t p ep r e) f
 
   pub name-many : item_count ≤ count → 14 ≡ name_reason count size t
   unfolding name_reason

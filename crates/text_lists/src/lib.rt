@@ -10,7 +10,6 @@ ghost use Rattle.text_lists.specs.Gather.{room_reason, spec_reason, name_reason,
 ghost use Rattle.text_lists.specs.Growing.{stopped, Room, SpecAdds, NameAdds, ShownAdds, LineAdds, Gathers};
 
 use limits::{ITEM_COUNT, ITEM_LIST_BYTES, NAME_BYTES, PROGRAM_BYTES, SPEC_COUNT, SPEC_LIST_BYTES};
-use parse::Parsed;
 use percent::{Measured, decode};
 
 pub mod line;
@@ -75,8 +74,8 @@ fn spec_reason(count: usize, size: usize, t: &[u8]) -> u64
         return 14;
     }
     match parse::parse(0, t) {
-        Parsed::Spec(_) => room_reason(SPEC_LIST_BYTES, size, t),
-        Parsed::Refused(n) => n,
+        Ok(_) => room_reason(SPEC_LIST_BYTES, size, t),
+        Err(q) => q.number(),
     }
 }
 

@@ -21,8 +21,8 @@ use Rattle.promises.proofs.Viewing.{object-length}
 use Rattle.parse.specs.declared.types.Side.{Side}
 use Rattle.parse.specs.declared.types.Side.TheVariants.{Absent, Part, Head}
 use Rattle.parse.specs.declared.types.RefSpec.{RefSpec}
-use Rattle.parse.specs.declared.Parsed.{Parsed}
-use Rattle.parse.specs.declared.Parsed.TheVariants as reading
+use Rattle.std.specs.Prelude.{Result, Ok, Err}
+use Rattle.refusal.specs.declared.Refusal.{Refusal}
 use Rattle.parse.specs.Places.{part_at, side_meant, Within, spec_meant, sign_length, supplied_place, named_place, source_place, places_at, places_of, parsed}
 use Rattle.parse.proofs.Parts.{part_length, part_of, part-within}
 use Rattle.parse.proofs.Answers.{read-refused, read-accepted, read-places, read-within}
@@ -155,7 +155,7 @@ head-none : (u : Text) → some (bytes "HEAD") ≡ some u → object_id u ≡ tr
 head-none u e h = let q : bytes "HEAD" ≡ u = cc in omega (arith, ap length q, object-length u h)
 
 -- the digits of a spec that was read
-module _ (op : ℕ) (t : Text) (r : RefSpec) (e : parsed op t ≡ reading.Spec r) where
+module _ (op : ℕ) (t : Text) (r : RefSpec) (e : parsed op t ≡ Ok r) where
   read_as : read_spec op t ≡ accepted (spec_meant t r)
   read_as = read-accepted op t (parsed op t) refl r e
 
@@ -185,11 +185,11 @@ module _ (op : ℕ) (t : Text) (r : RefSpec) (e : parsed op t ≡ reading.Spec r
           ap (λ (m : ℕ). digits_at (start + m) (object_text (part_at specs (start + at) n))) (sign-place at n s) ∙ ap (λ (x : Text). digits_at (start + sign_length (mode_of t)) (object_text x)) (sym p) ∙ ap (digits_at (start + sign_length (mode_of t))) (sym q)
 
 -- the answers of `object_part`
-module _ (op : ℕ) (specs : Text) (e : Extent) (h : e.start + e.len ≤ length specs) (p : Parsed) (is : p ≡ parsed op (take (e.start + e.len - e.start) (drop e.start specs))) where
+module _ (op : ℕ) (specs : Text) (e : Extent) (h : e.start + e.len ≤ length specs) (p : Result RefSpec Refusal) (is : p ≡ parsed op (take (e.start + e.len - e.start) (drop e.start specs))) where
   text-is : p ≡ parsed op (text_at specs e)
   text-is = is ∙ ap (parsed op) (part_of specs e.start e.len)
 
-  module _ (r : RefSpec) (s : p ≡ reading.Spec r) where
+  module _ (r : RefSpec) (s : p ≡ Ok r) where
     -- the source stands within its spec
     pub object-within : Within e.len r.src
     object-within = let w = (read-within op (text_at specs e) p text-is r s).src-within in rw (part_length specs e.start e.len h) at w
@@ -197,11 +197,11 @@ module _ (op : ℕ) (specs : Text) (e : Extent) (h : e.start + e.len ≤ length 
     pub object-read : (x : Extent) → e ≡ x → (q : parts.Part) → q ≡ side_digits specs e.start r.src → q ≡ spec_digits op specs x
     unfolding spec_digits
     object-read x a q b =
-        let f : parsed op (text_at specs e) ≡ reading.Spec r = sym text-is ∙ s in
+        let f : parsed op (text_at specs e) ≡ Ok r = sym text-is ∙ s in
         let d : object_read (read_spec op (text_at specs e)) ≡ object_source (spec_meant (text_at specs e) r) = ap object_read (read_as op (text_at specs e) r f) in
         rw (← a) (b ∙ side-is op (text_at specs e) r f specs e.start e.len refl h ∙ ap (digits_at (e.start + sign_length (mode_of (text_at specs e)))) (sym d))
 
-  pub object-refused : (n : ℕ) → p ≡ reading.Refused n → (x : Extent) → e ≡ x → (q : parts.Part) → q ≡ refused_part 16 0 → q ≡ spec_digits op specs x
+  pub object-refused : (n : Refusal) → p ≡ Err n → (x : Extent) → e ≡ x → (q : parts.Part) → q ≡ refused_part 16 0 → q ≡ spec_digits op specs x
   unfolding spec_digits
   object-refused n s x a q b =
       let d : object_read (read_spec op (text_at specs e)) ≡ none = ap object_read (read-refused op (text_at specs e) p text-is n s) in

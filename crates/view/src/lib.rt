@@ -9,7 +9,6 @@ ghost use Rattle.parse.specs.Places.{part_at, Within};
 ghost use Rattle.view.specs.Places.{extent_of, extent_at, part_of, refused_part, accepted_part, digits_at, object_text, side_digits, spec_digits};
 
 use list::cursor::{Cursor, Step};
-use parse::Parsed;
 use parse::types::{RefSpec, Side};
 
 // A part of a lent list in numbers: a refusal's or 0, the record that it carries, the list (0 the items, 1 the specs), where the part
@@ -139,8 +138,8 @@ fn object_part(op: u64, specs: &[u8], n: usize) -> Part
     let len = e.len;
     let end = start + len;
     match parse::parse(op, &specs[start..end]) {
-        Parsed::Spec(r) => read_digits(specs, start, len, r),
-        Parsed::Refused(_) => refused(16, 0),
+        Ok(r) => read_digits(specs, start, len, r),
+        Err(_) => refused(16, 0),
     }
 }
 

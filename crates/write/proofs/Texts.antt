@@ -20,8 +20,9 @@ use Rattle.buffer.proofs.Pairs.{pair-first, pair-second, pair_put}
 use Rattle.parse.specs.declared.types.Side.{Side}
 use Rattle.parse.specs.declared.types.Side.TheVariants.{Absent}
 use Rattle.parse.specs.declared.types.RefSpec.{RefSpec}
-use Rattle.parse.specs.declared.Parsed.{Parsed}
-use Rattle.parse.specs.declared.Parsed.TheVariants.{Spec, Refused}
+use Rattle.std.specs.Prelude.{Result, Ok, Err}
+use Rattle.refusal.specs.declared.Refusal.{Refusal}
+use Rattle.refusal.specs.Numbers.{number_of}
 use Rattle.parse.specs.Places.{mode_meant, Within, SidesWithin, spec_meant, parsed, is_present}
 use Rattle.refspec.specs.declared.instruction.Instruction.{Instruction}
 use Rattle.refspec.specs.declared.instruction.Instruction.TheVariants.{FetchOnly, FetchExclude, FetchAndUpdate, PushAllMatchingBranches, PushDelete, PushMatching, PushExclude}
@@ -224,13 +225,13 @@ module _ (op : ℕ) (t : Text) (r : RefSpec) (i : Instruction) (p : Pieces) (ei 
 
 -- ---- the entry
 
-module _ (op : ℕ) (t : Text) (answer : Parsed) (ea : answer ≡ parsed op t) (entry : Text) where
+module _ (op : ℕ) (t : Text) (answer : Result RefSpec Refusal) (ea : answer ≡ parsed op t) (entry : Text) where
   -- an accepted spec is written
-  pub bstring-accepted : (exit : Text) (r : RefSpec) (a b c : ℕ) → answer ≡ Spec r → MeetsOne (accepted (some (canonical_text op (spec_meant t r)) ∷ [])) entry exit a b c → MeetsOne (to_bstring op t) entry exit a b c
+  pub bstring-accepted : (exit : Text) (r : RefSpec) (a b c : ℕ) → answer ≡ Ok r → MeetsOne (accepted (some (canonical_text op (spec_meant t r)) ∷ [])) entry exit a b c → MeetsOne (to_bstring op t) entry exit a b c
   unfolding to_bstring
   bstring-accepted = spec-accepted (canonical_text op) op t answer ea entry
 
   -- a refused one leaves the buffer as it was
-  pub bstring-refused : (n : ℕ) (w : Written) → answer ≡ Refused n → w ≡ refused_with n 0 → MeetsOne (to_bstring op t) entry entry w.refusal w.«record» w.length
+  pub bstring-refused : (q : Refusal) (n : ℕ) (w : Written) → answer ≡ Err q → n ≡ number_of q → w ≡ refused_with n 0 → MeetsOne (to_bstring op t) entry entry w.refusal w.«record» w.length
   unfolding to_bstring
   bstring-refused = spec-refused (canonical_text op) op t answer ea entry

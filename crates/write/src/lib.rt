@@ -14,8 +14,8 @@ ghost use Rattle.refspec.specs.Instructions.{side_text};
 ghost use Rattle.write.specs.Canonical.{one_piece, two_pieces, sign_text, colon_text, pieces_of, PiecesWithin, pieces_text};
 
 use buffer::written::{Written, done, refused, short};
+use parse::parse;
 use parse::types::{RefSpec, Side};
-use parse::{Parsed, parse};
 use refspec::instruction::Instruction;
 use refspec::spec::instruction_of;
 use spec_text::{put_side, side_size};
@@ -194,7 +194,7 @@ pub fn to_bstring(op: u64, spec: &[u8], out: &mut [u8]) -> Written
     ensures { MeetsOne (to_bstring op spec.now) out.old out.new result.refusal result.record result.length }
 {
     match parse(op, spec) {
-        Parsed::Spec(r) => write_to(op, spec, r, out),
-        Parsed::Refused(n) => refused(n, 0),
+        Ok(r) => write_to(op, spec, r, out),
+        Err(q) => refused(q.number(), 0),
     }
 }

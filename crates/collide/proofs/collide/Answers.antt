@@ -7,8 +7,8 @@ use Rattle.collide.proofs.collide.Goals as goal
 pub with_second-requires : goal.with_second-requires
 with_second-requires c = (search read-within, search read-size)
 
-pub returns-in-Spec : goal.returns-in-Spec
-returns-in-Spec c = search (meets-as, report-accepted)
+pub returns-in-Ok : goal.returns-in-Ok
+returns-in-Ok c = search (meets-as, report-accepted)
 
-pub returns-in-Refused : goal.returns-in-Refused
-returns-in-Refused c = search (refused-told, report-refused)
+pub returns-in-Err : goal.returns-in-Err
+returns-in-Err c = search (refused-told, report-refused)

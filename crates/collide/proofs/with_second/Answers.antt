@@ -8,8 +8,8 @@ use Rattle.collide.proofs.with_second.Goals as goal
 pub two_specs-requires : goal.two_specs-requires
 two_specs-requires c = (search rules, search rules, search read-within, search read-size)
 
-pub returns-in-Spec : goal.returns-in-Spec
-returns-in-Spec c = search (meets-as, after-accepted)
+pub returns-in-Ok : goal.returns-in-Ok
+returns-in-Ok c = search (meets-as, after-accepted)
 
-pub returns-in-Refused : goal.returns-in-Refused
-returns-in-Refused c = search (refused-told, after-refused)
+pub returns-in-Err : goal.returns-in-Err
+returns-in-Err c = search (refused-told, after-refused)

@@ -6,8 +6,8 @@ use Rattle.expand.proofs.expand_prefixes.Goals as goal
 pub expand-requires : goal.expand-requires
 expand-requires c = (search read-within, search read-size)
 
-pub returns-in-Spec : goal.returns-in-Spec
-returns-in-Spec c = search expanded-accepted
+pub returns-in-Ok : goal.returns-in-Ok
+returns-in-Ok c = search expanded-accepted
 
-pub returns-in-Refused : goal.returns-in-Refused
-returns-in-Refused c = search expanded-refused
+pub returns-in-Err : goal.returns-in-Err
+returns-in-Err c = search expanded-refused

@@ -1,15 +1,17 @@
 -- The questions at entry come first, then those on the sides, and the places are those of the split. Assumes nothing.
-use Rattle.parse.proofs.Reading.{parse-early, parse-late, parse-accepted, parse-within, parsed-means}
+use Rattle.std.proofs.Common.{arith}
+use Rattle.parse.proofs.Places.{sides-within}
+use Rattle.parse.proofs.Reading.{reading, answered}
 use Rattle.parse.proofs.parse.Goals as goal
 
-pub returns-then-early-ne0 : goal.returns-then-early-ne0
-returns-then-early-ne0 c = (search parse-early, search (parsed-means, parse-early))
+pub returns-in_err-entry_refusal : goal.returns-in_err-entry_refusal
+returns-in_err-entry_refusal c = answered c.args.op c.args.spec.now _ (grind (arith, reading))
 
-pub sides_refusal-refusal-requires : goal.sides_refusal-refusal-requires
-sides_refusal-refusal-requires c = search parse-within
+pub sides_refusal-requires : goal.sides_refusal-requires
+sides_refusal-requires c = rw c.split-s.ensures.0 (sides-within _ _)
 
-pub returns-then-refusal-ne0 : goal.returns-then-refusal-ne0
-returns-then-refusal-ne0 c = (search parse-late, search (parsed-means, parse-late))
+pub returns-in_err-sides_refusal : goal.returns-in_err-sides_refusal
+returns-in_err-sides_refusal c = answered c.args.op c.args.spec.now _ (grind (arith, reading))
 
 pub returns : goal.returns
-returns c = (search parse-accepted, search (parsed-means, parse-accepted))
+returns c = answered c.args.op c.args.spec.now _ (grind (arith, reading))

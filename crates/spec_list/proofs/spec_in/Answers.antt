@@ -7,8 +7,8 @@ use Rattle.spec_list.proofs.spec_in.Goals as goal
 pub shifted-spec-requires : goal.shifted-spec-requires
 shifted-spec-requires c = (search spec-sides, search rules)
 
-pub returns-in-Spec : goal.returns-in-Spec
-returns-in-Spec c = (refl, search spec-means, search spec-within)
+pub returns-in-Ok : goal.returns-in-Ok
+returns-in-Ok c = (refl, search spec-means, search spec-within)
 
-pub returns-in-Refused : goal.returns-in-Refused
-returns-in-Refused c = search spec-turned
+pub returns-in-Err : goal.returns-in-Err
+returns-in-Err c = search spec-turned

@@ -5,8 +5,8 @@ use Rattle.text_lists.proofs.spec_reason.Goals as goal
 pub returns-then-count-ge-SPEC_COUNT : goal.returns-then-count-ge-SPEC_COUNT
 returns-then-count-ge-SPEC_COUNT c = search spec-many
 
-pub returns-in-Spec : goal.returns-in-Spec
-returns-in-Spec c = search spec-asked
+pub returns-in-Ok : goal.returns-in-Ok
+returns-in-Ok c = search spec-asked
 
-pub returns-in-Refused : goal.returns-in-Refused
-returns-in-Refused c = search spec-turned
+pub returns-in-Err : goal.returns-in-Err
+returns-in-Err c = search spec-turned

@@ -6,8 +6,8 @@ use Rattle.view.proofs.object_part.Goals as goal
 pub read_digits-requires : goal.read_digits-requires
 read_digits-requires c = (search rules, search object-within)
 
-pub returns-in-Spec : goal.returns-in-Spec
-returns-in-Spec c = search object-read
+pub returns-in-Ok : goal.returns-in-Ok
+returns-in-Ok c = search object-read
 
-pub returns-in-Refused : goal.returns-in-Refused
-returns-in-Refused c = search object-refused
+pub returns-in-Err : goal.returns-in-Err
+returns-in-Err c = search object-refused

@@ -6,8 +6,8 @@ use Rattle.write.proofs.to_bstring.Goals as goal
 pub write_to-requires : goal.write_to-requires
 write_to-requires c = (search read-within, search read-size)
 
-pub returns-in-Spec : goal.returns-in-Spec
-returns-in-Spec c = search bstring-accepted
+pub returns-in-Ok : goal.returns-in-Ok
+returns-in-Ok c = search bstring-accepted
 
-pub returns-in-Refused : goal.returns-in-Refused
-returns-in-Refused c = search bstring-refused
+pub returns-in-Err : goal.returns-in-Err
+returns-in-Err c = search bstring-refused

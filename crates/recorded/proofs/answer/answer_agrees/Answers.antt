@@ -6,5 +6,5 @@ use Rattle.recorded.proofs.answer.answer_agrees.Goals as goal
 pub accepted_agrees-requires : goal.accepted_agrees-requires
 accepted_agrees-requires c = (search rules, search answer-instructs, search rules)
 
-pub returns-in-Refused : goal.returns-in-Refused
-returns-in-Refused c = search answer-refused
+pub returns-in-Err : goal.returns-in-Err
+returns-in-Err c = search answer-refused

@@ -6,8 +6,8 @@ use Rattle.recorded.proofs.answer.prefix_field.Goals as goal
 pub side_field-requires : goal.side_field-requires
 side_field-requires c = (search rules, search prefix-within)
 
-pub returns-in-Prefix : goal.returns-in-Prefix
-returns-in-Prefix c = search found_prefix
+pub returns-in-Ok : goal.returns-in-Ok
+returns-in-Ok c = search found_prefix
 
-pub returns-in-Refused : goal.returns-in-Refused
-returns-in-Refused c = search no-prefix
+pub returns-in-Err : goal.returns-in-Err
+returns-in-Err c = search no-prefix

@@ -1,13 +1,18 @@
--- Each arm is one answer of reading, and the sides of an accepted spec stand within it. Assumes nothing.
+-- What reading refuses is refused, and the sides of an accepted spec stand within it. Assumes nothing.
+use Rattle.std.proofs.Common.{arith}
 use Rattle.parse.proofs.Answers.{read-within}
-use Rattle.refspec.proofs.Answers.{prefixed-to, prefixed-no, prefixed-means}
+use Rattle.refspec.specs.Prefixes.{prefixed_places}
+use Rattle.refspec.proofs.Answers.{prefixes}
+use Rattle.refspec.proofs.Fronts.{remote-within}
 use Rattle.refspec.proofs.spec.prefix.Goals as goal
 
-pub spec_prefix-requires : goal.spec_prefix-requires
-spec_prefix-requires c = search read-within
+pub returns-in_err-r : goal.returns-in_err-r
+unfolding prefixed_places
+returns-in_err-r c = prefixes c.args.op c.args.spec.now _ (grind arith)
 
-pub returns-in-Spec : goal.returns-in-Spec
-returns-in-Spec c = (search prefixed-to, search (prefixed-means, prefixed-to))
+pub prefix_of-requires : goal.prefix_of-requires
+prefix_of-requires c = remote-within c.args.op _ c.in_ok-r.r c.remote.result (read-within c.args.op c.args.spec.now c.parse.result c.parse.ensures.0 c.in_ok-r.r c.in_ok-r.was) c.remote.ensures
 
-pub returns-in-Refused : goal.returns-in-Refused
-returns-in-Refused c = (search prefixed-no, search (prefixed-means, prefixed-no))
+pub returns : goal.returns
+unfolding prefixed_places
+returns c = prefixes c.args.op c.args.spec.now _ (grind arith)

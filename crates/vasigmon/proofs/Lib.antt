@@ -1,2 +1,0 @@
--- `Cases`: the numbers of an answer are those of what it equals.
-pub mod Cases
