@@ -13,9 +13,8 @@ use Rattle.meaning.specs.Bytes.{Text}
 use Rattle.meaning.specs.Limits.{row_list_bytes}
 use Rattle.promises.proofs.Laws.{same_refl}
 use Rattle.text.proofs.Rests.{rest-cons, rest_end}
-use Rattle.keys.specs.declared.key.Key.TheVariants.{Place, Source}
 use Rattle.order.specs.Sorting.{insert_by, sort_by, run_of, heads_after, heads}
-use Rattle.keys.specs.Keys.{key_at, same_at, not_after}
+use Rattle.keys.specs.Keys.{same_at, not_after, place_key, source_key}
 use Rattle.order.specs.Keys.{sort_places}
 use Rattle.order.proofs.Heads.{heads-sort, place-sort}
 use Rattle.conflict.specs.declared.sources.HeadsSize.{HeadsSize}
@@ -35,14 +34,14 @@ heads-run one x l = ap (λ (k : List ℕ). x ∷ k) (go l)
         at false e i = rw e
 
 abbrev one : Text → ℕ → ℕ → Bool
-one s = same_at Source s
+one s = same_at source_key s
 
 module _ (s : Text) (l : List ℕ) (i : ℕ) (h : i < length l) (end : ℕ) (run : end ≡ i + run_of (one s (get_or l i 0)) (drop i l)) where
   heads-next : heads (one s) (drop i l) ≡ get_or l i 0 ∷ heads (one s) (drop end l)
   heads-next =
       let p = get_or l i 0 in
       let t = drop (i + 1) l in
-      let r : run_of (one s p) (drop i l) ≡ suc (run_of (one s p) t) = rw (rest-cons l i h, same_refl (key_at Source s p)) in
+      let r : run_of (one s p) (drop i l) ≡ suc (run_of (one s p) t) = rw (rest-cons l i h, same_refl (source_key s p)) in
       let k : i + 1 + run_of (one s p) t ≡ end = omega (arith, r) in
       let q : drop (run_of (one s p) t) t ≡ drop end l = drop-drop (run_of (one s p) t) (i + 1) l ∙ ap (λ (n : ℕ). drop n l) k in
       ap (heads (one s)) (rest-cons l i h) ∙ heads-run (one s) p t ∙ ap (λ (k : List ℕ). p ∷ heads (one s) k) q
@@ -55,14 +54,8 @@ pub record Counting (s : Text) (l : List ℕ) (i count size : ℕ) : Type 0 wher
   pub measured : size + length (sources_at s (heads (one s) (drop i l))) ≡ length (sources_at s (heads (one s) l))
   pub small : size ≤ count * conflict_source_most
 
-pub counting-starts : (s : Text) (l : List ℕ) → Counting s l 0 0 0
-counting-starts s l = record { within = omega arith; few = omega arith; counted = omega arith; measured = omega arith; small = omega arith }
-
 module _ (s : Text) (l : List ℕ) (i count size : ℕ) (m : Counting s l i count size) where
   module _ (h : i < length l) (end : ℕ) (run : end ≡ i + run_of (one s (get_or l i 0)) (drop i l)) (begun : i < end) (room : end ≤ length l) (p n : ℕ) (ep : p ≡ get_or l i 0) (en : n ≡ length (source_at s p)) (few : n ≤ conflict_source_most) where
-    pub counting-fits : length l ≤ row_list_bytes → Fits w64 (size + n)
-    counting-fits k = omega (arith, m.small, m.few)
-
     pub counting_more : Counting s l end (count + 1) (size + n)
     unfolding sources_at source_at
     counting_more =
@@ -118,9 +111,9 @@ module _ (s : Text) (le : ℕ → ℕ → Bool) where
   sort-size (x ∷ l) = omega (arith, insert-size x (sort_by le l), sort-size l, sources-cons x l)
 
 -- `sorted_run_size`: e is the run l sorted by source, g the same by place
-module _ (s : Text) (l e g : List ℕ) (run : OneRun s l) (sorted : e ≡ sort_places Source s l) (placed : g ≡ sort_places Place s e) where
+module _ (s : Text) (l e g : List ℕ) (run : OneRun s l) (sorted : e ≡ sort_places source_key s l) (placed : g ≡ sort_places place_key s e) where
   pub run-back : g ≡ l
-  run-back = placed ∙ rw sorted (place-sort s (not_after Source s) l run.ascends)
+  run-back = placed ∙ rw sorted (place-sort s (not_after source_key s) l run.ascends)
 
   pub run-again : OneRun s g
   run-again = rw run-back run
@@ -128,12 +121,12 @@ module _ (s : Text) (l e g : List ℕ) (run : OneRun s l) (sorted : e ≡ sort_p
   pub run-bytes : (r : ℕ) → r ≡ length (run_bytes s g) → r ≡ length (run_bytes s l)
   run-bytes r h = h ∙ ap (λ (k : List ℕ). length (run_bytes s k)) run-back
 
-  heads-are : heads (one s) e ≡ sort_places Source s (firsts_at s g)
-  heads-are = rw (sorted, run-back) (heads-sort Source s l)
+  heads-are : heads (one s) e ≡ sort_places source_key s (firsts_at s g)
+  heads-are = rw (sorted, run-back) (heads-sort source_key s l)
 
   module _ (h : HeadsSize) (m : Heads s e h) where
     pub firsts-counted : h.count ≡ length (firsts_at s g)
-    firsts-counted = m.count-is ∙ ap length heads-are ∙ sort-count s (not_after Source s) (firsts_at s g)
+    firsts-counted = m.count-is ∙ ap length heads-are ∙ sort-count s (not_after source_key s) (firsts_at s g)
 
     pub firsts-measured : h.size ≡ length (sources_at s (firsts_at s g))
-    firsts-measured = m.size_is ∙ ap (λ (k : List ℕ). length (sources_at s k)) heads-are ∙ sort-size s (not_after Source s) (firsts_at s g)
+    firsts-measured = m.size_is ∙ ap (λ (k : List ℕ). length (sources_at s k)) heads-are ∙ sort-size s (not_after source_key s) (firsts_at s g)

@@ -29,14 +29,8 @@ pub record Measuring (s : Text) (l : List ℕ) (i size : ℕ) : Type 0 where
   pub measured : size + length (sources_at s (drop i l)) ≡ length (sources_at s l)
   pub small : size ≤ i * conflict_source_most
 
-pub measuring-starts : (s : Text) (l : List ℕ) → Measuring s l 0 0
-measuring-starts s l = record { within = omega arith; measured = omega arith; small = omega arith }
-
 module _ (s : Text) (l : List ℕ) (i size : ℕ) (m : Measuring s l i size) where
   module _ (p n : ℕ) (h : i < length l) (ep : p ≡ get_or l i 0) (en : n ≡ length (source_at s p)) (few : n ≤ conflict_source_most) where
-    pub measuring-fits : length l ≤ row_list_bytes → Fits w64 (size + n)
-    measuring-fits k = omega (arith, m.small)
-
     pub measuring-more : Measuring s l (i + 1) (size + n)
     measuring-more =
         let e : n ≡ length (source_at s (get_or l i 0)) = en ∙ ap (λ (x : ℕ). length (source_at s x)) ep in
@@ -56,9 +50,6 @@ module _ (s : Text) (l : List ℕ) (i size : ℕ) (m : Measuring s l i size) whe
 pub record Putting (s : Text) (l : List ℕ) (buffer : Text) (start : ℕ) (out : Text) (to i : ℕ) : Type 0 where
   pub within : i ≤ length l
   pub writing : Writing buffer start (sources_at s l) out to (sources_at s (drop i l))
-
-pub putting-starts : (s : Text) (l : List ℕ) (buffer : Text) (start : ℕ) → start + length (sources_at s l) ≤ length buffer → Putting s l buffer start buffer start 0
-putting-starts s l buffer start fits = record { within = omega arith; writing = writing-starts buffer start (sources_at s l) fits }
 
 module _ (s : Text) (l : List ℕ) (buffer : Text) (start : ℕ) (out : Text) (to i : ℕ) (k : Putting s l buffer start out to i) where
   module _ (p : ℕ) (h : i < length l) (ep : p ≡ get_or l i 0) where

@@ -24,9 +24,8 @@ use Rattle.number.proofs.Bytes.{bytes-few}
 use Rattle.parse.specs.Places.{part_at}
 use Rattle.row_fields.specs.declared.Stretch.{Stretch}
 use Rattle.row_fields.specs.Stages.{destination_in, StretchSpells}
-use Rattle.keys.specs.declared.key.Key.TheVariants.{Source}
 use Rattle.order.specs.Sorting.{firsts_by}
-use Rattle.keys.specs.Keys.{row_at, same_at}
+use Rattle.keys.specs.Keys.{row_at, same_at, source_key}
 use Rattle.keys.proofs.Rows.{destination-there}
 use Rattle.conflict.specs.Sizes.{conflict_destination_most, conflict_source_most, conflict_row_most}
 use Rattle.conflict.specs.Shared.{conflict_part}
@@ -85,12 +84,12 @@ keep-rows s test (p ∷ l) = go (test (row_at s p)) (keep-rows s test l)
     go false e = e
 
 -- the first place of each source is that of a row that is first seen
-firsts_rows : (s : Text) (l : List ℕ) → rows_at s (firsts_by (same_at Source s) l) ≡ first_seen (rows_at s l)
+firsts_rows : (s : Text) (l : List ℕ) → rows_at s (firsts_by (same_at source_key s) l) ≡ first_seen (rows_at s l)
 unfolding differ
 firsts_rows s [] = refl
-firsts_rows s (p ∷ l) = ap (λ k. row_at s p ∷ k) (keep-rows s (differ (row_at s p)) (firsts_by (same_at Source s) l) ∙ ap (keep (differ (row_at s p))) (firsts_rows s l))
+firsts_rows s (p ∷ l) = ap (λ k. row_at s p ∷ k) (keep-rows s (differ (row_at s p)) (firsts_by (same_at source_key s) l) ∙ ap (keep (differ (row_at s p))) (firsts_rows s l))
 
-pub firsts-first : (s : Text) (l : List ℕ) → get_or (firsts_by (same_at Source s) l) 0 0 ≡ get_or l 0 0
+pub firsts-first : (s : Text) (l : List ℕ) → get_or (firsts_by (same_at source_key s) l) 0 0 ≡ get_or l 0 0
 firsts-first s [] = refl
 firsts-first s (p ∷ l) = refl
 
@@ -123,7 +122,7 @@ module _ (s : Text) (l : List ℕ) (run : OneRun s l) where
   pub short-after : length l < 2 → (to : ℕ) → to ≡ to + length (run_bytes s l)
   short-after h to = rw (short_none h) (sym (add-zero to))
 
-  module _ (n : ℕ) (e : List ℕ) (long : length e ≡ length l) (few : n ≤ length l) (firsts : take n e ≡ firsts_by (same_at Source s) l) where
+  module _ (n : ℕ) (e : List ℕ) (long : length e ≡ length l) (few : n ≤ length l) (firsts : take n e ≡ firsts_by (same_at source_key s) l) where
     rows_are : rows_at s (take n e) ≡ sources_on (rows_at s l) dst
     rows_are = ap (rows_at s) firsts ∙ firsts_rows s l ∙ sym sources-are
 

@@ -4,9 +4,8 @@ use Rattle.meaning.specs.Bytes.{Text, or_empty}
 use Rattle.meaning.specs.Number.{number_bytes, text_bytes}
 use Rattle.meaning.specs.Rows.{Row}
 use Rattle.meaning.specs.Validation.{rows_onto, in_conflict, conflict_on, conflict_bytes}
-use Rattle.keys.specs.declared.key.Key.TheVariants.{Source}
 use Rattle.order.specs.Sorting.{Increasing, heads, firsts_by}
-use Rattle.keys.specs.Keys.{row_at, same_at}
+use Rattle.keys.specs.Keys.{row_at, same_at, source_key}
 use Rattle.conflict.specs.declared.sources.HeadsSize.{HeadsSize}
 use Rattle.conflict.specs.Sizes.{conflict_source_most}
 use Rattle.conflict.specs.FirstSeen.{row_source_bytes, sources_bytes, listed_bytes}
@@ -49,11 +48,11 @@ sources_at s l = sources_bytes (rows_at s l)
 
 -- the places of rows that are the first of their source, by place
 abbrev pub firsts_at : Text → List ℕ → List ℕ
-firsts_at s l = firsts_by (same_at Source s) l
+firsts_at s l = firsts_by (same_at source_key s) l
 
 -- how many places of a list sorted by source are the first of theirs, and how many bytes their sources take
 pub record Heads (s : Text) (l : List ℕ) (h : HeadsSize) : Type 0 where
-  pub count-is : h.count ≡ length (heads (same_at Source s) l)
+  pub count-is : h.count ≡ length (heads (same_at source_key s) l)
   pub count_small : h.count ≤ length l
-  pub size_is : h.size ≡ length (sources_at s (heads (same_at Source s) l))
+  pub size_is : h.size ≡ length (sources_at s (heads (same_at source_key s) l))
   pub size_small : h.size ≤ length l * conflict_source_most

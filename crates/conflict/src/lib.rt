@@ -6,16 +6,17 @@ ghost use Rattle.std.specs.Prelude.{◌≡◌, ◌+◌, ◌*◌, ◌≤◌, ◌<
 ghost use Rattle.buffer.specs.Splice.{splice};
 ghost use Rattle.meaning.specs.Limits.{row_list_bytes};
 ghost use Rattle.meaning.specs.Number.{text_bytes};
+ghost use Rattle.order.specs.Rooms.{HalfRoom};
 ghost use Rattle.conflict.specs.Sizes.{conflict_destination_most, conflict_source_most, conflict_row_most};
 ghost use Rattle.conflict.specs.Shared.{destination_at, OneRun, run_bytes, head_at, listed_at, sources_at, firsts_at};
 
 mod sources;
 
-use keys::key::Key;
+use keys::key::{Place, Source};
 use order::run::{keep_firsts, pair_firsts};
 use order::sort::sort;
 use row_fields::destination_at;
-use sources::{heads_size, put_sources, put_text, sources_size, wide};
+use sources::{heads_size, put_sources, put_text, sources_size};
 
 // How many bytes the destination of the row at a place takes with its length.
 fn destination_size(rows: &[u8], p: usize) -> usize
@@ -23,8 +24,7 @@ fn destination_size(rows: &[u8], p: usize) -> usize
     ensures { (result ≡ length (text_bytes (destination_at rows.now p))) × (result ≤ conflict_destination_most) }
 {
     let dst = destination_at(rows, p);
-    let len = dst.len;
-    number::size(len) + len
+    number::size(dst.len) + dst.len
 }
 
 // Writes the destination of the row at a place with its length, and answers the place after it.
@@ -41,9 +41,9 @@ fn listed_size(rows: &[u8], firsts: &[u32]) -> usize
     requires { (0 < length firsts.now) × (length rows.now ≤ row_list_bytes) × (length firsts.now ≤ row_list_bytes) }
     ensures { (result ≡ length (listed_at rows.now firsts.now)) × (result ≤ length firsts.now * conflict_row_most) }
 {
-    let count = firsts.len();
-    let head = destination_size(rows, wide(firsts[0]));
-    head + number::size(count) + sources_size(rows, firsts)
+    destination_size(rows, firsts[0] as usize)
+        + number::size(firsts.len())
+        + sources_size(rows, firsts)
 }
 
 // Writes the destination of the rows at places and how many they are, and answers the place after them.
@@ -51,9 +51,8 @@ fn put_head(out: &mut [u8], to: usize, rows: &[u8], firsts: &[u32]) -> usize
     requires { (0 < length firsts.now) × (length rows.now ≤ row_list_bytes) × (length firsts.now ≤ row_list_bytes) × (to + length (head_at rows.now firsts.now) ≤ length out.old) }
     ensures { (out.new ≡ splice out.old to (head_at rows.now firsts.now)) × (result ≡ to + length (head_at rows.now firsts.now)) }
 {
-    let count = firsts.len();
-    let i = put_destination(out, to, rows, wide(firsts[0]));
-    number::put(out, i, count)
+    let i = put_destination(out, to, rows, firsts[0] as usize);
+    number::put(out, i, firsts.len())
 }
 
 // Writes a destination with the rows at places: itself, how many, and their sources. Answers the place after them.
@@ -70,11 +69,12 @@ fn pair_size(rows: &[u8], run: &[u32]) -> usize
     requires { OneRun rows.now run.now × (length run.now ≡ 2) × (length rows.now ≤ row_list_bytes) }
     ensures { (result ≡ length (run_bytes rows.now run.now)) × (result ≤ length run.now * conflict_row_most) }
 {
-    let count = pair_firsts(rows, Key::Source, run);
+    let count = pair_firsts::<Source>(rows, run);
     if count < 2 {
-        return 0;
+        0
+    } else {
+        listed_size(rows, &run[..count])
     }
-    listed_size(rows, &run[..count])
 }
 
 // How many bytes the conflict of a run takes that has so many sources, which take so many bytes.
@@ -83,36 +83,34 @@ fn counted_size(rows: &[u8], run: &[u32], sources: usize, size: usize) -> usize
     ensures { (result ≡ length (run_bytes rows.now run.now)) × (result ≤ length run.now * conflict_row_most) }
 {
     if sources < 2 {
-        return 0;
+        0
+    } else {
+        destination_size(rows, run[0] as usize) + number::size(sources) + size
     }
-    let head = destination_size(rows, wide(run[0]));
-    head + number::size(sources) + size
 }
 
 // How many bytes the conflict of a run takes, by a sort that brings the rows of a source together, and one back to place order.
 fn sorted_run_size(rows: &[u8], run: &mut [u32], scratch: &mut [u32]) -> usize
-    requires { OneRun rows.now run.old × (0 < length run.old) × (length rows.now ≤ row_list_bytes) × (length run.old ≤ row_list_bytes) × (length run.old ≤ 2 * length scratch.old + 1) }
+    requires { OneRun rows.now run.old × (0 < length run.old) × (length rows.now ≤ row_list_bytes) × (length run.old ≤ row_list_bytes) × HalfRoom run.old scratch.old }
     ensures { (result ≡ length (run_bytes rows.now run.old)) × (result ≤ length run.old * conflict_row_most) × (run.new ≡ run.old) }
 {
-    sort(rows, Key::Source, run, scratch);
+    sort::<Source>(rows, run, scratch);
     let heads = heads_size(rows, run);
-    sort(rows, Key::Place, run, scratch);
+    sort::<Place>(rows, run, scratch);
     counted_size(rows, run, heads.count, heads.size)
 }
 
 // How many bytes the conflict of a run takes; 0 where all its rows have one source. The run is left as it was; what `scratch` holds
 // afterwards is left open.
 pub fn run_size(rows: &[u8], run: &mut [u32], scratch: &mut [u32]) -> usize
-    requires { OneRun rows.now run.old × (0 < length run.old) × (length rows.now ≤ row_list_bytes) × (length run.old ≤ row_list_bytes) × (length run.old ≤ 2 * length scratch.old + 1) }
+    requires { OneRun rows.now run.old × (0 < length run.old) × (length rows.now ≤ row_list_bytes) × (length run.old ≤ row_list_bytes) × HalfRoom run.old scratch.old }
     ensures { (result ≡ length (run_bytes rows.now run.old)) × (result ≤ length run.old * conflict_row_most) × (run.new ≡ run.old) }
 {
-    if run.len() < 2 {
-        return 0;
+    match run.len() {
+        0 | 1 => 0,
+        2 => pair_size(rows, run),
+        _ => sorted_run_size(rows, run, scratch),
     }
-    if run.len() == 2 {
-        return pair_size(rows, run);
-    }
-    sorted_run_size(rows, run, scratch)
 }
 
 // Writes the conflict of a run, if its rows have different sources, and answers the place after it. The run is used up: what it holds
@@ -124,13 +122,13 @@ pub fn put_run(
     run: &mut [u32],
     scratch: &mut [u32],
 ) -> usize
-    requires { OneRun rows.now run.old × (0 < length run.old) × (length rows.now ≤ row_list_bytes) × (length run.old ≤ row_list_bytes) × (length run.old ≤ 2 * length scratch.old + 1) × (to + length (run_bytes rows.now run.old) ≤ length out.old) }
+    requires { OneRun rows.now run.old × (0 < length run.old) × (length rows.now ≤ row_list_bytes) × (length run.old ≤ row_list_bytes) × HalfRoom run.old scratch.old × (to + length (run_bytes rows.now run.old) ≤ length out.old) }
     ensures { (out.new ≡ splice out.old to (run_bytes rows.now run.old)) × (result ≡ to + length (run_bytes rows.now run.old)) }
 {
     if run.len() < 2 {
         return to;
     }
-    let n = keep_firsts(rows, Key::Source, run, scratch);
+    let n = keep_firsts::<Source>(rows, run, scratch);
     if n < 2 {
         return to;
     }

@@ -8,7 +8,7 @@ ghost use Rattle.conflict.specs.Sizes.{conflict_source_most};
 ghost use Rattle.conflict.specs.Shared.{source_at, sources_at, Heads};
 
 use keys::fields::fields;
-use keys::key::Key;
+use keys::key::Source;
 use order::run::run_end;
 
 // Of places sorted by source: how many are the first of theirs, and how many bytes the sources take.
@@ -18,21 +18,13 @@ pub(crate) struct HeadsSize {
     pub size: usize,
 }
 
-// A place of an index as a number of the machine's width.
-pub(crate) fn wide(p: u32) -> usize
-    ensures { result ≡ p }
-{
-    p as usize
-}
-
 // Writes the length of a text of a row list and its bytes, and answers the place after them.
 pub(crate) fn put_text(out: &mut [u8], at: usize, rows: &[u8], start: usize, len: usize) -> usize
     requires { (start + len ≤ length rows.now) × (length rows.now ≤ row_list_bytes) × (at + length (text_bytes (part_at rows.now start len)) ≤ length out.old) }
     ensures { (out.new ≡ splice out.old at (text_bytes (part_at rows.now start len))) × (result ≡ at + length (text_bytes (part_at rows.now start len))) }
 {
     let i = number::put(out, at, len);
-    let end = start + len;
-    buffer::put(out, i, &rows[start..end])
+    buffer::put(out, i, &rows[start..start + len])
 }
 
 // How many bytes the source of the row at a place takes in a conflict.
@@ -41,9 +33,7 @@ fn source_size(rows: &[u8], p: usize) -> usize
     ensures { (result ≡ length (source_at rows.now p)) × (result ≤ conflict_source_most) }
 {
     let row = fields(rows, p);
-    let numbers = number::size(row.spec) + number::size(row.kind);
-    let len = row.src_len;
-    numbers + number::size(len) + len
+    number::size(row.spec) + number::size(row.kind) + number::size(row.src_len) + row.src_len
 }
 
 // Writes the source of the row at a place, and answers the place after it.
@@ -63,10 +53,8 @@ pub(crate) fn sources_size(rows: &[u8], places: &[u32]) -> usize
     ensures { (result ≡ length (sources_at rows.now places.now)) × (result ≤ length places.now * conflict_source_most) }
 {
     let mut size = 0;
-    let mut i = 0;
-    while i < places.len() {
-        size += source_size(rows, wide(places[i]));
-        i += 1;
+    for p in places {
+        size += source_size(rows, *p as usize);
     }
     size
 }
@@ -77,10 +65,8 @@ pub(crate) fn put_sources(out: &mut [u8], start: usize, rows: &[u8], places: &[u
     ensures { (out.new ≡ splice out.old start (sources_at rows.now places.now)) × (result ≡ start + length (sources_at rows.now places.now)) }
 {
     let mut to = start;
-    let mut i = 0;
-    while i < places.len() {
-        to = put_source(out, to, rows, wide(places[i]));
-        i += 1;
+    for p in places {
+        to = put_source(out, to, rows, *p as usize);
     }
     to
 }
@@ -94,9 +80,9 @@ pub(crate) fn heads_size(rows: &[u8], places: &[u32]) -> HeadsSize
     let mut size = 0;
     let mut i = 0;
     while i < places.len() {
-        let end = run_end(rows, Key::Source, places, i);
+        let end = run_end::<Source>(rows, places, i);
         count += 1;
-        size += source_size(rows, wide(places[i]));
+        size += source_size(rows, places[i] as usize);
         i = end;
     }
     HeadsSize { count, size }

@@ -3,15 +3,14 @@ use mathlib.Core.Path.{◌≡◌, refl, sym, ap, ◌∙◌}
 use mathlib.Core.Bool.{Bool, true, false, cond}
 use mathlib.Core.List.{List, [], ◌∷◌, ◌++◌}
 use mathlib.Core.Option.{Option, none, some}
-use Prim.Native.Nat.{ℕ, suc, ◌+◌}
+use Prim.Native.Nat.{ℕ, suc}
 use lib.ListN.{get_or, take, drop, take-append-drop}
 use Rattle.meaning.specs.Bytes.{Text, keep, each, same, present, or_empty}
 use Rattle.meaning.specs.Rows.{Row}
 use Rattle.meaning.specs.Validation.{onto, is_text, rows_onto, in_conflict, conflict_on}
 use Rattle.promises.proofs.Laws.{same-is, same_refl}
-use Rattle.keys.specs.declared.key.Key.TheVariants.{Destination}
 use Rattle.order.specs.Sorting.{Below, Sorted, run_of, run_next, heads_after, heads, Increasing}
-use Rattle.keys.specs.Keys.{row_at, key_at, same_at, not_after}
+use Rattle.keys.specs.Keys.{row_at, same_at, not_after, destination_key}
 use Rattle.order.proofs.Sorts.{clash}
 use Rattle.order.proofs.Runs.{group-run}
 use Rattle.order.proofs.Heads.{Apart, apart_below, apart-heads}
@@ -34,18 +33,18 @@ keep_append test (x ∷ a) b = go (test x) (keep_append test a b)
 
 module _ (s : Text) where
   abbrev le : ℕ → ℕ → Bool
-  le = not_after Destination s
+  le = not_after destination_key s
 
   abbrev one : ℕ → ℕ → Bool
-  one = same_at Destination s
+  one = same_at destination_key s
 
   -- the conflict on the destination of p among the rows at places
   abbrev part : List ℕ → ℕ → Text
-  part l p = conflict_part (rows_at s (keep (same_at Destination s p) l)) (destination_at s p)
+  part l p = conflict_part (rows_at s (keep (same_at destination_key s p) l)) (destination_at s p)
 
   -- the conflicts of the rows at places, destination by destination
   abbrev pub walk : List ℕ → Text
-  walk l = each (heads (same_at Destination s) l) (part l)
+  walk l = each (heads (same_at destination_key s) l) (part l)
 
   heads-run : (p : ℕ) (l : List ℕ) → heads_after one p l ≡ heads one (drop (run_of (one p) l) l)
   heads-run p [] = refl
@@ -56,23 +55,23 @@ module _ (s : Text) where
       go false i = refl
 
   -- what follows the run of p has other keys
-  rest-apart : (p : ℕ) (l : List ℕ) → Below le p l → Sorted le l → Apart Destination s p (drop (run_of (one p) l) l)
+  rest-apart : (p : ℕ) (l : List ℕ) → Below le p l → Sorted le l → Apart destination_key s p (drop (run_of (one p) l) l)
   rest-apart p [] b o = tt
   rest-apart p (y ∷ l) b o = go (one p y) refl (rest-apart p l b.1 o.1)
     where
-      go : (c : Bool) → one p y ≡ c → Apart Destination s p (drop (run_of (one p) l) l) → Apart Destination s p (drop (run_next c (run_of (one p) l)) (y ∷ l))
+      go : (c : Bool) → one p y ≡ c → Apart destination_key s p (drop (run_of (one p) l) l) → Apart destination_key s p (drop (run_next c (run_of (one p) l)) (y ∷ l))
       go true e i = i
-      go false e i = (e, apart_below Destination s p y l b.0 e o.0)
+      go false e i = (e, apart_below destination_key s p y l b.0 e o.0)
 
-  heads-other : (p : ℕ) (l : List ℕ) → Apart Destination s p l → Apart Destination s p (heads one l)
+  heads-other : (p : ℕ) (l : List ℕ) → Apart destination_key s p l → Apart destination_key s p (heads one l)
   heads-other p [] a = tt
-  heads-other p (y ∷ l) a = (a.0, apart-heads Destination s p y l a.1)
+  heads-other p (y ∷ l) a = (a.0, apart-heads destination_key s p y l a.1)
 
   other-swap : (p h : ℕ) → one p h ≡ false → one h p ≡ false
   other-swap p h e = go (one h p) refl
     where
       go : (b : Bool) → one h p ≡ b → b ≡ false
-      go true f = absurd (clash {b = one p h} (ap (λ (t : Text). same (key_at Destination s p) t) (same-is (key_at Destination s h) (key_at Destination s p) f) ∙ same_refl (key_at Destination s p)) e)
+      go true f = absurd (clash {b = one p h} (ap (λ (t : Text). same (destination_key s p) t) (same-is (destination_key s h) (destination_key s p) f) ∙ same_refl (destination_key s p)) e)
       go false f = refl
 
   -- nothing in the run of p has the key of another
@@ -82,7 +81,7 @@ module _ (s : Text) where
     where
       go : (c : Bool) → one p y ≡ c → keep (one h) (take (run_of (one p) l) l) ≡ [] → keep (one h) (take (run_next c (run_of (one p) l)) (y ∷ l)) ≡ []
       go true f i =
-          let g : one h y ≡ false = ap (λ (t : Text). same (key_at Destination s h) t) (sym (same-is (key_at Destination s p) (key_at Destination s y) f)) ∙ e in
+          let g : one h y ≡ false = ap (λ (t : Text). same (destination_key s h) t) (sym (same-is (destination_key s p) (destination_key s y) f)) ∙ e in
           rw g i
       go false f i = refl
 
@@ -90,18 +89,18 @@ module _ (s : Text) where
   rest-keeps p h l e =
       sym (ap (keep (one h)) (take-append-drop (run_of (one p) l) l)) ∙ keep_append (one h) (take (run_of (one p) l) l) (drop (run_of (one p) l) l) ∙ rw (run_none p h l (other-swap p h e))
 
-  rest-parts : (p : ℕ) (l m : List ℕ) → Apart Destination s p m → each m (part l) ≡ each m (part (drop (run_of (one p) l) l))
+  rest-parts : (p : ℕ) (l m : List ℕ) → Apart destination_key s p m → each m (part l) ≡ each m (part (drop (run_of (one p) l) l))
   rest-parts p l [] a = refl
   rest-parts p l (h ∷ m) a = rw (rest-keeps p h l a.0, rest-parts p l m a.1)
 
   run-first : (p : ℕ) (l : List ℕ) → run_of (one p) (p ∷ l) ≡ suc (run_of (one p) l)
-  run-first p l = rw (same_refl (key_at Destination s p))
+  run-first p l = rw (same_refl (destination_key s p))
 
   run_is : (p : ℕ) (l : List ℕ) → Sorted le (p ∷ l) → take (run_of (one p) (p ∷ l)) (p ∷ l) ≡ keep (one p) (p ∷ l)
-  run_is p l o = group-run Destination s p l o
+  run_is p l o = group-run destination_key s p l o
 
   first_of : (p : ℕ) (l : List ℕ) → get_or (keep (one p) (p ∷ l)) 0 0 ≡ p
-  first_of p l = rw (same_refl (key_at Destination s p))
+  first_of p l = rw (same_refl (destination_key s p))
 
   -- the run at the front, and the rest
   pub walk-run : (p : ℕ) (l : List ℕ) → Sorted le (p ∷ l) → walk (p ∷ l) ≡ run_bytes s (take (run_of (one p) (p ∷ l)) (p ∷ l)) ++ walk (drop (run_of (one p) (p ∷ l)) (p ∷ l))
@@ -110,7 +109,7 @@ module _ (s : Text) where
       let rest = drop (run_of (one p) (p ∷ l)) (p ∷ l) in
       let d : rest ≡ drop (run_of (one p) l) l = rw (run-first p l) in
       let h : heads_after one p l ≡ heads one rest = heads-run p l ∙ rw d in
-      let a : Apart Destination s p (heads one rest) = heads-other p rest (rw d (rest-apart p l o.0 o.1)) in
+      let a : Apart destination_key s p (heads one rest) = heads-other p rest (rw d (rest-apart p l o.0 o.1)) in
       rw (run_is p l o, first_of p l) (ap (λ (k : Text). part (p ∷ l) p ++ k) (ap (λ (m : List ℕ). each m (part (p ∷ l))) h ∙ rest-parts p (p ∷ l) (heads one rest) a))
 
   -- rows on the destination of p

@@ -22,9 +22,8 @@ use Rattle.buffer.specs.Splice.{splice}
 use Rattle.buffer.proofs.Splices.{splice-none}
 use Rattle.text.proofs.Rests.{rest-cons, rest_end}
 use Rattle.buffer.proofs.Writing.{Writing, writing-starts, writing-room, writing_more, written-whole}
-use Rattle.keys.specs.declared.key.Key.TheVariants.{Destination}
 use Rattle.order.specs.Sorting.{insert_by, sort_by, Sorted, run_of, heads, Increasing}
-use Rattle.keys.specs.Keys.{row_at, same_at, not_after}
+use Rattle.keys.specs.Keys.{row_at, same_at, not_after, destination_key}
 use Rattle.order.proofs.Sorts.{sorted_sort}
 use Rattle.order.proofs.Keys.{keys-order}
 use Rattle.order.proofs.Runs.{group-kept}
@@ -104,20 +103,20 @@ module _ (specs : ℕ) (s : Text) (d : List ℕ) (x : SortedIndex specs s d) whe
   abbrev rows : List Row
   rows = rows_in specs s
 
-  group : (p : ℕ) → keep (same_at Destination s p) d ≡ keep (same_at Destination s p) x.places
-  group p = ap (keep (same_at Destination s p)) x.sorted ∙ group-kept Destination s x.places p
+  group : (p : ℕ) → keep (same_at destination_key s p) d ≡ keep (same_at destination_key s p) x.places
+  group p = ap (keep (same_at destination_key s p)) x.sorted ∙ group-kept destination_key s x.places p
 
-  rows_on : (p : ℕ) → rows_onto rows (destination_at s p) ≡ rows_at s (keep (same_at Destination s p) d)
+  rows_on : (p : ℕ) → rows_onto rows (destination_at s p) ≡ rows_at s (keep (same_at destination_key s p) d)
   rows_on p =
       sym (onto-kept rows (destination_at s p)) ∙ ap (λ (l : List Row). rows_onto l (destination_at s p)) (sym x.indexed.rows_are)
       ∙ onto-keep s p x.places x.indexed.given ∙ ap (rows_at s) (sym (group p))
 
-  part-is : (p : ℕ) → conflict_part rows (destination_at s p) ≡ conflict_part (rows_at s (keep (same_at Destination s p) d)) (destination_at s p)
+  part-is : (p : ℕ) → conflict_part rows (destination_at s p) ≡ conflict_part (rows_at s (keep (same_at destination_key s p) d)) (destination_at s p)
   part-is p =
-      part_by rows (rows_at s (keep (same_at Destination s p) d)) (destination_at s p)
+      part_by rows (rows_at s (keep (same_at destination_key s p) d)) (destination_at s p)
       (rows_on p ∙ ap (rows_at s) (group p) ∙ sym (onto-again s p x.places x.indexed.given) ∙ ap (λ (l : List ℕ). rows_onto (rows_at s l) (destination_at s p)) (sym (group p)))
 
-  parts_are : (l : List ℕ) → each l (λ p. conflict_part rows (destination_at s p)) ≡ each l (λ p. conflict_part (rows_at s (keep (same_at Destination s p) d)) (destination_at s p))
+  parts_are : (l : List ℕ) → each l (λ p. conflict_part rows (destination_at s p)) ≡ each l (λ p. conflict_part (rows_at s (keep (same_at destination_key s p) d)) (destination_at s p))
   parts_are [] = refl
   parts_are (p ∷ l) = rw (part-is p, parts_are l)
 
@@ -125,17 +124,17 @@ module _ (specs : ℕ) (s : Text) (d : List ℕ) (x : SortedIndex specs s d) whe
   walk-whole : walk s d ≡ conflicts_bytes rows
   walk-whole =
       let e : each rows destination_of ≡ map (destination_at s) x.places = sym (destinations-kept rows) ∙ ap (λ (l : List Row). each l destination_of) (sym x.indexed.rows_are) ∙ destinations-at s x.places x.indexed.given in
-      let o : in_order (each rows destination_of) ≡ map (destination_at s) (heads (same_at Destination s) d) = ap in_order e ∙ in_order_lem s x.places ∙ ap (λ (l : List ℕ). map (destination_at s) (heads (same_at Destination s) l)) (sym x.sorted) in
-      sym (parts_are (heads (same_at Destination s) d)) ∙ sym (each_map (destination_at s) (conflict_part rows) (heads (same_at Destination s) d)) ∙ ap (λ (l : List Text). each l (conflict_part rows)) (sym o) ∙ conflicts-parts rows
+      let o : in_order (each rows destination_of) ≡ map (destination_at s) (heads (same_at destination_key s) d) = ap in_order e ∙ in_order_lem s x.places ∙ ap (λ (l : List ℕ). map (destination_at s) (heads (same_at destination_key s) l)) (sym x.sorted) in
+      sym (parts_are (heads (same_at destination_key s) d)) ∙ sym (each_map (destination_at s) (conflict_part rows) (heads (same_at destination_key s) d)) ∙ ap (λ (l : List Text). each l (conflict_part rows)) (sym o) ∙ conflicts-parts rows
 
-  index-sorted : Sorted (not_after Destination s) d
-  index-sorted = rw x.sorted (sorted_sort (not_after Destination s) (keys-order Destination s) x.places)
+  index-sorted : Sorted (not_after destination_key s) d
+  index-sorted = rw x.sorted (sorted_sort (not_after destination_key s) (keys-order destination_key s) x.places)
 
-  index-grouped : (p : ℕ) → Increasing (keep (same_at Destination s p) d)
-  index-grouped p = rw (group p) (ascending-keep (same_at Destination s p) x.places x.indexed.ascends)
+  index-grouped : (p : ℕ) → Increasing (keep (same_at destination_key s p) d)
+  index-grouped p = rw (group p) (ascending-keep (same_at destination_key s p) x.places x.indexed.ascends)
 
   index-given : Given s d
-  index-given = rw x.sorted (given-sort s (not_after Destination s) x.places x.indexed.given)
+  index-given = rw x.sorted (given-sort s (not_after destination_key s) x.places x.indexed.given)
 
 -- what is left of an index
 
@@ -161,19 +160,19 @@ grouped-drop test (suc i) (x ∷ l) a = grouped-drop test i l (go (test x) a)
 -- the index from a position on, where a run begins
 pub record Here (s : Text) (d : List ℕ) (i : ℕ) : Type 0 where
   pub within : i ≤ length d
-  pub sorted : Sorted (not_after Destination s) (drop i d)
+  pub sorted : Sorted (not_after destination_key s) (drop i d)
   pub given : Given s (drop i d)
-  pub grouped : (p : ℕ) → Increasing (keep (same_at Destination s p) (drop i d))
+  pub grouped : (p : ℕ) → Increasing (keep (same_at destination_key s p) (drop i d))
 
 here-starts : (specs : ℕ) (s : Text) (d : List ℕ) → SortedIndex specs s d → Here s d 0
 here-starts specs s d x = record { within = omega arith; sorted = index-sorted specs s d x; given = index-given specs s d x; grouped = index-grouped specs s d x }
 
-module _ (s : Text) (d : List ℕ) (i : ℕ) (h : Here s d i) (some : i < length d) (end : ℕ) (run : end ≡ i + run_of (same_at Destination s (get_or d i 0)) (drop i d)) (begun : i < end) (room : end ≤ length d) where
+module _ (s : Text) (d : List ℕ) (i : ℕ) (h : Here s d i) (some : i < length d) (end : ℕ) (run : end ≡ i + run_of (same_at destination_key s (get_or d i 0)) (drop i d)) (begun : i < end) (room : end ≤ length d) where
   abbrev first : ℕ
   first = get_or d i 0
 
   abbrev size : ℕ
-  size = run_of (same_at Destination s first) (first ∷ drop (i + 1) d)
+  size = run_of (same_at destination_key s first) (first ∷ drop (i + 1) d)
 
   abbrev rest : List ℕ
   rest = first ∷ drop (i + 1) d
@@ -182,7 +181,7 @@ module _ (s : Text) (d : List ℕ) (i : ℕ) (h : Here s d i) (some : i < length
   left = rest-cons d i some
 
   size_is : end - i ≡ size
-  size_is = omega (arith, ap (run_of (same_at Destination s first)) left)
+  size_is = omega (arith, ap (run_of (same_at destination_key s first)) left)
 
   after_is : drop size rest ≡ drop end d
   after_is =
@@ -192,14 +191,14 @@ module _ (s : Text) (d : List ℕ) (i : ℕ) (h : Here s d i) (some : i < length
   run_is : take (end - i) (drop i d) ≡ take size rest
   run_is = ap (λ (n : ℕ). take n (drop i d)) size_is ∙ ap (take size) left
 
-  rest_sorted : Sorted (not_after Destination s) rest
-  rest_sorted = subst (Sorted (not_after Destination s)) left h.sorted
+  rest_sorted : Sorted (not_after destination_key s) rest
+  rest_sorted = subst (Sorted (not_after destination_key s)) left h.sorted
 
   rest-given : Given s rest
   rest-given = subst (Given s) left h.given
 
-  rest-grouped : (p : ℕ) → Increasing (keep (same_at Destination s p) rest)
-  rest-grouped p = subst (λ (l : List ℕ). Increasing (keep (same_at Destination s p) l)) left (h.grouped p)
+  rest-grouped : (p : ℕ) → Increasing (keep (same_at destination_key s p) rest)
+  rest-grouped p = subst (λ (l : List ℕ). Increasing (keep (same_at destination_key s p) l)) left (h.grouped p)
 
   pub run-one : OneRun s (take (end - i) (drop i d))
   run-one = subst (OneRun s) (sym run_is) (run-shares s first (drop (i + 1) d) rest_sorted rest-given (rest-grouped first))
@@ -236,9 +235,9 @@ module _ (s : Text) (d : List ℕ) (i : ℕ) (h : Here s d i) (some : i < length
     here-next =
         record {
           within = omega (arith, back_long);
-          sorted = subst (Sorted (not_after Destination s)) there (sorted-drop (not_after Destination s) size rest rest_sorted);
+          sorted = subst (Sorted (not_after destination_key s)) there (sorted-drop (not_after destination_key s) size rest rest_sorted);
           given = subst (Given s) there (given-drop s size rest rest-given);
-          grouped = λ p. subst (λ (l : List ℕ). Increasing (keep (same_at Destination s p) l)) there (grouped-drop (same_at Destination s p) size rest (rest-grouped p));
+          grouped = λ p. subst (λ (l : List ℕ). Increasing (keep (same_at destination_key s p) l)) there (grouped-drop (same_at destination_key s p) size rest (rest-grouped p));
         }
 
 -- the runs before a position are measured
@@ -256,7 +255,7 @@ module _ (specs : ℕ) (s : Text) (d₀ d : List ℕ) (i size : ℕ) (m : Walkin
   pub walking-done : length d ≤ i → size ≡ length (conflicts_bytes (rows_in specs s))
   walking-done h = omega (arith, m.measured, ap (λ (l : List ℕ). length (walk s l)) (rest_end d i h))
 
-  module _ (some : i < length d) (end : ℕ) (run : end ≡ i + run_of (same_at Destination s (get_or d i 0)) (drop i d)) (begun : i < end) (room : end ≤ length d) (n : ℕ) (few : n ≤ length (take (end - i) (drop i d)) * conflict_row_most) where
+  module _ (some : i < length d) (end : ℕ) (run : end ≡ i + run_of (same_at destination_key s (get_or d i 0)) (drop i d)) (begun : i < end) (room : end ≤ length d) (n : ℕ) (few : n ≤ length (take (end - i) (drop i d)) * conflict_row_most) where
     pub walking-fits : length d₀ ≤ row_list_bytes → Fits w64 (size + n)
     walking-fits h = omega (arith, m.small, m.same-long, mid_len i end d room)
 
@@ -288,7 +287,7 @@ module _ (specs : ℕ) (s : Text) (d₀ d : List ℕ) (i : ℕ) (buffer out : Te
   pub putting-done : length d ≤ i → out ≡ splice buffer 0 (conflicts_bytes (rows_in specs s))
   putting-done h = written-whole buffer 0 (conflicts_bytes (rows_in specs s)) out to (walk s (drop i d)) k.writing (ap (walk s) (rest_end d i h))
 
-  module _ (some : i < length d) (end : ℕ) (run : end ≡ i + run_of (same_at Destination s (get_or d i 0)) (drop i d)) (begun : i < end) (room : end ≤ length d) where
+  module _ (some : i < length d) (end : ℕ) (run : end ≡ i + run_of (same_at destination_key s (get_or d i 0)) (drop i d)) (begun : i < end) (room : end ≤ length d) where
     pub putting-room : to + length (run_bytes s (take (end - i) (drop i d))) ≤ length out
     putting-room =
         writing-room buffer 0 (conflicts_bytes (rows_in specs s)) out to (walk s (drop i d)) k.writing (run_bytes s (take (end - i) (drop i d))) (walk s (drop end d)) (walk-on s d i k.at some end run begun room)

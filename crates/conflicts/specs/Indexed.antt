@@ -4,9 +4,8 @@ use Rattle.meaning.specs.Bytes.{Text, keep, present}
 use Rattle.meaning.specs.Rows.{Row}
 use Rattle.parse.specs.declared.types.Side.{Side}
 use Rattle.parse.specs.declared.types.Side.TheVariants.{Absent, Part, Head}
-use Rattle.keys.specs.declared.key.Key.TheVariants.{Destination}
 use Rattle.order.specs.Sorting.{Increasing}
-use Rattle.keys.specs.Keys.{row_at}
+use Rattle.keys.specs.Keys.{row_at, destination_key}
 use Rattle.order.specs.Keys.{sort_places}
 use Rattle.row_list.specs.Lists.{rows_in}
 use Rattle.conflict.specs.Shared.{rows_at}
@@ -30,7 +29,7 @@ pub record Indexed (specs : ℕ) (s : Text) (l : List ℕ) : Type 0 where
 pub record SortedIndex (specs : ℕ) (s : Text) (d : List ℕ) : Type 0 where
   pub places : List ℕ
   pub indexed : Indexed specs s places
-  pub sorted : d ≡ sort_places Destination s places
+  pub sorted : d ≡ sort_places destination_key s places
 
 -- a place was stored after n others, if the side is there
 abbrev pub Stored : List ℕ → ℕ → ℕ → Side → List ℕ → ℕ → Type 0

@@ -2,12 +2,13 @@
 ghost use Rattle.std.specs.Prelude.{◌≡◌, ◌+◌, ◌*◌, ◌≤◌, ◌<◌, length, take, set};
 ghost use Rattle.meaning.specs.Limits.{row_list_bytes};
 ghost use Rattle.buffer.specs.Splice.{splice};
+ghost use Rattle.order.specs.Rooms.{HalfRoom};
 ghost use Rattle.row_list.specs.Lists.{rows_in, RowsRead};
 ghost use Rattle.conflicts.specs.ConflictBytes.{conflicts_bytes, put_if_room, InList};
 ghost use Rattle.conflicts.specs.Indexed.{Indexed, SortedIndex, Stored};
 
 use conflict::{put_run, run_size};
-use keys::key::Key;
+use keys::key::Destination;
 use list::cursor::Cursor;
 use order::run::run_end;
 use order::sort::sort;
@@ -70,13 +71,13 @@ fn fill(rows: &[u8], specs: usize, index: &mut [u32]) -> usize
 
 // How many bytes the conflicts of a sorted index take, run by run. The index is left as it was.
 fn sorted_size(rows: &[u8], specs: usize, index: &mut [u32], scratch: &mut [u32]) -> usize
-    requires { RowsRead specs rows.now × SortedIndex specs rows.now index.old × (length index.old ≤ row_list_bytes) × (length index.old ≤ 2 * length scratch.old + 1) }
+    requires { RowsRead specs rows.now × SortedIndex specs rows.now index.old × (length index.old ≤ row_list_bytes) × HalfRoom index.old scratch.old }
     ensures { (result ≡ length (conflicts_bytes (rows_in specs rows.now))) × (index.new ≡ index.old) }
 {
     let mut size = 0;
     let mut i = 0;
     while i < index.len() {
-        let end = run_end(rows, Key::Destination, index, i);
+        let end = run_end::<Destination>(rows, index, i);
         size += run_size(rows, &mut index[i..end], scratch);
         i = end;
     }
@@ -85,13 +86,13 @@ fn sorted_size(rows: &[u8], specs: usize, index: &mut [u32], scratch: &mut [u32]
 
 // Writes the conflicts of a sorted index at the start of a buffer, run by run.
 fn put_sorted(out: &mut [u8], rows: &[u8], specs: usize, index: &mut [u32], scratch: &mut [u32])
-    requires { RowsRead specs rows.now × SortedIndex specs rows.now index.old × (length index.old ≤ row_list_bytes) × (length index.old ≤ 2 * length scratch.old + 1) × (length (conflicts_bytes (rows_in specs rows.now)) ≤ length out.old) }
+    requires { RowsRead specs rows.now × SortedIndex specs rows.now index.old × (length index.old ≤ row_list_bytes) × HalfRoom index.old scratch.old × (length (conflicts_bytes (rows_in specs rows.now)) ≤ length out.old) }
     ensures { out.new ≡ splice out.old 0 (conflicts_bytes (rows_in specs rows.now)) }
 {
     let mut to = 0;
     let mut i = 0;
     while i < index.len() {
-        let end = run_end(rows, Key::Destination, index, i);
+        let end = run_end::<Destination>(rows, index, i);
         to = put_run(out, to, rows, &mut index[i..end], scratch);
         i = end;
     }
@@ -105,7 +106,7 @@ fn put_if_room(
     index: &mut [u32],
     scratch: &mut [u32],
 ) -> usize
-    requires { RowsRead specs rows.now × SortedIndex specs rows.now index.old × (length index.old ≤ row_list_bytes) × (length index.old ≤ 2 * length scratch.old + 1) }
+    requires { RowsRead specs rows.now × SortedIndex specs rows.now index.old × (length index.old ≤ row_list_bytes) × HalfRoom index.old scratch.old }
     ensures { (result ≡ length (conflicts_bytes (rows_in specs rows.now))) × (out.new ≡ put_if_room out.old (conflicts_bytes (rows_in specs rows.now))) }
 {
     let size = sorted_size(rows, specs, index, scratch);
@@ -127,10 +128,10 @@ fn put_filled(
     index: &mut [u32],
     scratch: &mut [u32],
 ) -> usize
-    requires { RowsRead specs rows.now × Indexed specs rows.now index.old × (length index.old ≤ row_list_bytes) × (length index.old ≤ 2 * length scratch.old + 1) }
+    requires { RowsRead specs rows.now × Indexed specs rows.now index.old × (length index.old ≤ row_list_bytes) × HalfRoom index.old scratch.old }
     ensures { (result ≡ length (conflicts_bytes (rows_in specs rows.now))) × (out.new ≡ put_if_room out.old (conflicts_bytes (rows_in specs rows.now))) }
 {
-    sort(rows, Key::Destination, index, scratch);
+    sort::<Destination>(rows, index, scratch);
     put_if_room(out, rows, specs, index, scratch)
 }
 
@@ -142,7 +143,7 @@ pub(crate) fn put_indexed(
     index: &mut [u32],
     scratch: &mut [u32],
 ) -> usize
-    requires { RowsRead specs rows.now × (length (rows_in specs rows.now) ≤ length index.old) × (length index.old ≤ row_list_bytes) × (length index.old ≤ 2 * length scratch.old + 1) }
+    requires { RowsRead specs rows.now × (length (rows_in specs rows.now) ≤ length index.old) × (length index.old ≤ row_list_bytes) × HalfRoom index.old scratch.old }
     ensures { (result ≡ length (conflicts_bytes (rows_in specs rows.now))) × (out.new ≡ put_if_room out.old (conflicts_bytes (rows_in specs rows.now))) }
 {
     let n = fill(rows, specs, index);

@@ -1,3 +1,3 @@
--- `Rows`: the fields and the destination of the row at a place. `Keys`: what keys denote, and how two compare.
+-- `Rows`: the fields and the destination of the row at a place. `Keys`: what keys of them are.
 pub mod Rows
 pub mod Keys

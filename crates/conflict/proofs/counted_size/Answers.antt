@@ -9,8 +9,8 @@ returns-then-sources-lt2 c = (search few-none, search rules)
 pub overflow_add-result : goal.overflow_add-result
 overflow_add-result c = search size-two
 
-pub overflow_add-result-2 : goal.overflow_add-result-2
-overflow_add-result-2 c = search size-three
+pub overflow_add-result-else-sources-lt2 : goal.overflow_add-result-else-sources-lt2
+overflow_add-result-else-sources-lt2 c = search size-three
 
-pub returns : goal.returns
-returns c = (search counted-whole, search size_small)
+pub returns-else-sources-lt2 : goal.returns-else-sources-lt2
+returns-else-sources-lt2 c = (search counted-whole, search size_small)

@@ -1,5 +1,5 @@
 -- `conflict::put_run` meets its contract: fewer than two sources are no conflict.
-use Rattle.conflict.proofs.Shares.{short-put, short-after, one-put, one-after, firsts-count, firsts-some, firsts-short, two-room, two-put, two-after}
+use Rattle.conflict.proofs.Shares.{short-put, short-after, one-put, one-after, firsts-some, firsts-short, two-room, two-put, two-after}
 use borrow.Author.Rules.{rules}
 use Rattle.conflict.proofs.put_run.Goals as goal
 
@@ -8,9 +8,6 @@ returns-then-run-lt2 c = (search short-put, search short-after)
 
 pub returns-then-n-lt2 : goal.returns-then-n-lt2
 returns-then-n-lt2 c = (search one-put, search one-after)
-
-pub slice_bounds-put_listed-end-2 : goal.slice_bounds-put_listed-end-2
-slice_bounds-put_listed-end-2 c = search firsts-count
 
 pub put_listed-requires : goal.put_listed-requires
 put_listed-requires c = (search firsts-some, search rules, search firsts-short, search two-room)

@@ -3,5 +3,5 @@ use Rattle.conflict.proofs.Shares.{short-size}
 use borrow.Author.Rules.{rules}
 use Rattle.conflict.proofs.run_size.Goals as goal
 
-pub returns-then-run-lt2 : goal.returns-then-run-lt2
-returns-then-run-lt2 c = (search short-size, search rules, search rules)
+pub returns-in-0 : goal.returns-in-0
+returns-in-0 c = (search short-size, search rules, search rules)

@@ -1,15 +1,12 @@
-use Rattle.conflict.proofs.Listing.{putting-starts, putting-room, putting-more, putting-done, putting-place}
+use Rattle.conflict.proofs.Listing.{putting-room, putting-more, putting-done, putting-place}
 use borrow.Author.Rules.{rules}
 use Rattle.conflict.proofs.sources.put_sources.Goals as goal
-
-pub loop-i-init : goal.loop-i-init
-loop-i-init c = search putting-starts
 
 pub put_source-to-requires : goal.put_source-to-requires
 put_source-to-requires c = (search rules, search putting-room)
 
-pub loop-i-preserved : goal.loop-i-preserved
-loop-i-preserved c = search putting-more
+pub loop-p-preserved : goal.loop-p-preserved
+loop-p-preserved c = search putting-more
 
 pub returns : goal.returns
 returns c = (search putting-done, search putting-place)

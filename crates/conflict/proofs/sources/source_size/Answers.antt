@@ -2,14 +2,14 @@
 use Rattle.conflict.proofs.Pieces.{two-fit, three-fit, source_fits, source-small, source-size}
 use Rattle.conflict.proofs.sources.source_size.Goals as goal
 
-pub overflow_add-numbers : goal.overflow_add-numbers
-overflow_add-numbers c = search two-fit
-
 pub overflow_add-result : goal.overflow_add-result
-overflow_add-result c = search three-fit
+overflow_add-result c = search two-fit
 
 pub overflow_add-result-2 : goal.overflow_add-result-2
-overflow_add-result-2 c = search source_fits
+overflow_add-result-2 c = search three-fit
+
+pub overflow_add-result-3 : goal.overflow_add-result-3
+overflow_add-result-3 c = search source_fits
 
 pub returns : goal.returns
 returns c = (search source-size, search source-small)
