@@ -1,4 +1,5 @@
-// What one spec makes of one name: the ends of the row, forward, in reverse and of an object id. Port of the crate's match_group/util.rs.
+// What one spec makes of one name: the ends of the row, forward, in reverse and of an object id. The ends of a name that is known to be
+// matched come of how many bytes it has: nothing is compared again. Port of the crate's match_group/util.rs.
 #![tactic(auto)]
 
 ghost use Rattle.std.specs.Prelude.{◌≡◌, [], ◌≤◌, length};
@@ -10,71 +11,123 @@ ghost use Rattle.matcher.specs.Matching.{ends_meant, EndsWithin, MatcherWithin, 
 ghost use Rattle.match_one.specs.Answers.{hit_by, Answers, needle_form, reverse_forms, AnswersBack, object_places};
 ghost use Rattle.match_one.specs.Known.{known_places, known_back, KnownForward, KnownReverse};
 
-mod known;
 mod rows;
 
-use known::{forward_known, reverse_known};
-use matcher::types::{Ends, Matcher};
-use rows::{forward_row, object_row, reverse_row};
+use glob::Captured;
+use matcher::types::{Ends, Lead, Matcher, Needle, RowText, Target};
+use refspec::side::text_of;
+use rows::{as_spelt, caught, caught_len, completed, filled, side_glob};
 
-// A spec on a name, forward: the ends of the row, in which the name is the source.
-pub fn forward(specs: &[u8], m: Matcher, name: &[u8]) -> Ends
+// A spec on a name, forward: the ends of the row, in which the name is the source. An object id matches no name.
+pub fn forward(specs: &[u8], m: Matcher, name: &[u8]) -> Option<Ends>
     requires { MatcherWithin (length specs.now) m }
     ensures { Answers specs.now name.now m.dst m.rhs (hit_by (needle_meant (side_text specs.now m.src) m.lhs) name.now) result
         × ((s : Spec) → Matches specs.now s m → ends_meant specs.now name.now result ≡ forward_ends s name.now) }
 {
-    let src = m.src;
-    let lhs = m.lhs;
-    let dst = m.dst;
-    let rhs = m.rhs;
-    forward_row(specs, src, lhs, dst, rhs, name)
+    match m.lhs {
+        Needle::Absent | Needle::Object => None,
+        Needle::Glob(star) => {
+            let c = side_glob(specs, m.src, star, name)?;
+            caught(specs, m, c)
+        }
+        Needle::FullName => {
+            if compare::same(text_of(specs, b"HEAD", m.src), name) {
+                completed(m, RowText::Name)
+            } else {
+                None
+            }
+        }
+        Needle::PartialName => {
+            if frames::any_candidate(text_of(specs, b"HEAD", m.src), name) {
+                completed(m, RowText::Name)
+            } else {
+                None
+            }
+        }
+    }
 }
 
 // A spec on a name in reverse: the ends of the row, in which the name is the destination. Nothing is completed.
-pub fn reverse(specs: &[u8], m: Matcher, name: &[u8]) -> Ends
+pub fn reverse(specs: &[u8], m: Matcher, name: &[u8]) -> Option<Ends>
     requires { MatcherWithin (length specs.now) m }
     ensures { AnswersBack specs.now name.now (reverse_forms (needle_form (side_text specs.now m.src) m.lhs) (target_meant (side_text specs.now m.dst) m.rhs) name.now) result
         × ((s : Spec) → Matches specs.now s m → ends_meant specs.now name.now result ≡ reverse_ends s name.now) }
 {
-    let src = m.src;
-    let lhs = m.lhs;
-    let dst = m.dst;
-    let rhs = m.rhs;
-    reverse_row(specs, src, lhs, dst, rhs, name)
+    match m.lhs {
+        Needle::Absent => None,
+        Needle::Glob(star) => {
+            let Target::Pattern(second) = m.rhs else {
+                return None;
+            };
+            let c = side_glob(specs, m.dst, second, name)?;
+            Some(Ends {
+                source: filled(specs, m.src, star, c),
+                destination: RowText::Name,
+            })
+        }
+        Needle::FullName | Needle::Object | Needle::PartialName => {
+            let Target::Literal(_) = m.rhs else {
+                return None;
+            };
+            if compare::same(text_of(specs, b"HEAD", m.dst), name) {
+                Some(as_spelt(m))
+            } else {
+                None
+            }
+        }
+    }
 }
 
 // The ends of the row of an object source, whatever the names.
-pub fn object(specs: &[u8], m: Matcher) -> Ends
+pub fn object(specs: &[u8], m: Matcher) -> Option<Ends>
     requires { MatcherWithin (length specs.now) m }
     ensures { (result ≡ object_places m.src m.lhs m.dst m.rhs) × ((s : Spec) → Matches specs.now s m → ends_meant specs.now [] result ≡ object_ends s) × EndsWithin (length specs.now) 0 result }
 {
-    let src = m.src;
-    let lhs = m.lhs;
-    let dst = m.dst;
-    let rhs = m.rhs;
-    object_row(src, lhs, dst, rhs)
+    match m.lhs {
+        Needle::Object => completed(m, RowText::Led(Lead::Digits, m.src)),
+        _ => None,
+    }
 }
 
 // The ends of the forward row of a name of n bytes, which is known to have one, or of the row of an object source.
-pub fn known_forward(specs: &[u8], m: Matcher, n: usize) -> Ends
+pub fn known_forward(specs: &[u8], m: Matcher, n: usize) -> Option<Ends>
     requires { MatcherWithin (length specs.now) m × (n ≤ name_bytes) }
     ensures { (result ≡ known_places m.src m.lhs m.dst m.rhs n) × KnownForward specs.now m n result }
 {
-    let src = m.src;
-    let lhs = m.lhs;
-    let dst = m.dst;
-    let rhs = m.rhs;
-    forward_known(specs, src, lhs, dst, rhs, n)
+    match m.lhs {
+        Needle::Absent => None,
+        Needle::Glob(star) => {
+            let len = caught_len(m.src, n)?;
+            caught(specs, m, Captured { from: star, len })
+        }
+        Needle::FullName | Needle::PartialName => completed(m, RowText::Name),
+        Needle::Object => object(specs, m),
+    }
 }
 
 // The ends of the reverse row of a name of n bytes, which is known to have one.
-pub fn known_reverse(specs: &[u8], m: Matcher, n: usize) -> Ends
+pub fn known_reverse(specs: &[u8], m: Matcher, n: usize) -> Option<Ends>
     requires { MatcherWithin (length specs.now) m × (n ≤ name_bytes) }
     ensures { (result ≡ known_back m.src m.lhs m.dst m.rhs n) × KnownReverse specs.now m n result }
 {
-    let src = m.src;
-    let lhs = m.lhs;
-    let dst = m.dst;
-    let rhs = m.rhs;
-    reverse_known(specs, src, lhs, dst, rhs, n)
+    match m.lhs {
+        Needle::Absent => None,
+        Needle::Glob(star) => {
+            let Target::Pattern(second) = m.rhs else {
+                return None;
+            };
+            let len = caught_len(m.dst, n)?;
+            let c = Captured { from: second, len };
+            Some(Ends {
+                source: filled(specs, m.src, star, c),
+                destination: RowText::Name,
+            })
+        }
+        Needle::FullName | Needle::Object | Needle::PartialName => {
+            let Target::Literal(_) = m.rhs else {
+                return None;
+            };
+            Some(as_spelt(m))
+        }
+    }
 }

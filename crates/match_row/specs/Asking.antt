@@ -1,4 +1,5 @@
 -- What the functions of a pair ask and answer.
+use Rattle.std.specs.Prelude as prelude
 use Rattle.std.specs.Prelude.{ℕ, ◌+◌, ◌*◌, ◌≤◌, ◌<◌, ◌≡◌, Bool, List, length}
 use Rattle.std.proofs.Math.Option.{some}
 use Rattle.meaning.specs.Bytes.{Text}
@@ -24,12 +25,12 @@ pub record MatcherReady (specs : Text) (m : Matcher) : Type 0 where
   pub short : (t : Text) → side_meant specs m.src ≡ some t → length t ≤ spec_bytes
 
 -- the ends of a row, as the spec of a matcher makes them of a name
-pub record EndsTold (back : Bool) (specs name : Text) (m : Matcher) (e : Ends) : Type 0 where
+pub record EndsTold (back : Bool) (specs name : Text) (m : Matcher) (e : prelude.Option Ends) : Type 0 where
   pub told : ends_meant specs name e ≡ ends_in back (matcher_spec specs m) name
   pub within : EndsWithin (length specs) (length name) e
 
 -- the ends of the row with this item field, of a name of so many bytes that has one
-pub record FieldTold (back : Bool) (specs : Text) (m : Matcher) (field n : ℕ) (e : Ends) : Type 0 where
+pub record FieldTold (back : Bool) (specs : Text) (m : Matcher) (field n : ℕ) (e : prelude.Option Ends) : Type 0 where
   pub told : (name : Text) → length name ≡ n → (r : listing.Ends) → field_ends back (matcher_spec specs m) field name ≡ some r → ends_meant specs name e ≡ some r
   pub within : EndsWithin (length specs) n e
 

@@ -17,10 +17,10 @@ pub fn matcher(specs: &[u8], r: RefSpec) -> Matcher
     requires { SidesWithin (length specs.now) r }
     ensures { (result.src ≡ r.src) × (result.dst ≡ r.dst) × Matches specs.now (spec_meant specs.now r) result }
 {
-    let mode = r.mode;
-    let src = r.src;
-    let dst = r.dst;
-    let lhs = needle_of(specs, is_negative(mode), src);
-    let rhs = target_of(specs, dst);
-    Matcher { src, lhs, dst, rhs }
+    Matcher {
+        src: r.src,
+        lhs: needle_of(specs, is_negative(r.mode), r.src),
+        dst: r.dst,
+        rhs: target_of(specs, r.dst),
+    }
 }

@@ -1,4 +1,7 @@
 // What one spec looks for and what it makes of a name, as places. Port of the crate's match_group types.rs and of the types in util.rs.
+ghost use Rattle.std.specs.Prelude.{◌≡◌};
+ghost use Rattle.matcher.specs.Matching.{lead_bytes, lowers};
+
 use parse::types::Side;
 
 // What a source looks for.
@@ -29,6 +32,26 @@ pub enum Lead {
     HeadsDigits,
     // Its lower-case digits.
     Digits,
+}
+
+impl Lead {
+    // The bytes that lead.
+    pub fn bytes(self) -> &'static [u8]
+        ensures { result.now ≡ lead_bytes self }
+    {
+        match self {
+            Lead::AsIs | Lead::Digits => b"",
+            Lead::Refs => b"refs/",
+            Lead::Heads | Lead::HeadsDigits => b"refs/heads/",
+        }
+    }
+
+    // What is led stands in lower case.
+    pub fn lowers(self) -> bool
+        ensures { result ≡ lowers self }
+    {
+        matches!(self, Lead::HeadsDigits | Lead::Digits)
+    }
 }
 
 // A destination.
@@ -75,12 +98,9 @@ pub enum RowText {
     Filled(Filled),
 }
 
-// The ends of a row, or that there is none.
+// The ends of a row.
 #[derive(Clone, Copy)]
-pub enum Ends {
-    Nothing,
-    Row {
-        source: RowText,
-        destination: RowText,
-    },
+pub struct Ends {
+    pub source: RowText,
+    pub destination: RowText,
 }

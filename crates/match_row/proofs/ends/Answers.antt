@@ -5,5 +5,5 @@ use Rattle.match_row.proofs.ends.Goals as goal
 pub returns-then-back : goal.returns-then-back
 returns-then-back c = search ends-back
 
-pub returns : goal.returns
-returns c = search ends_on
+pub returns-else-back : goal.returns-else-back
+returns-else-back c = search ends_on

@@ -8,5 +8,5 @@ returns-then-field-eq0 c = search field-object
 pub returns-then-back : goal.returns-then-back
 returns-then-back c = search field_back
 
-pub returns : goal.returns
-returns c = search field-on
+pub returns-else-back : goal.returns-else-back
+returns-else-back c = search field-on

@@ -1,13 +1,19 @@
--- No row, or the one that the ends make.
-use Rattle.match_row.proofs.Kept.{none-measured, row-measured, source-short, source-within, destination-within, lent_is}
+-- No row, one that is gone, or the one that the ends make.
+use Rattle.match_row.proofs.Kept.{none-measured, gone-measured, kept-measured, source-short, ends-within, source-within, item-small, lent_is}
 use borrow.Author.Rules.{rules}
 use Rattle.match_row.proofs.item_size.Goals as goal
 
-pub kept_size-requires : goal.kept_size-requires
-kept_size-requires c = (search lent_is, search rules, search rules, search rules, search source-within, search destination-within, search source-short)
+pub removed-requires : goal.removed-requires
+removed-requires c = (search lent_is, search source-within, search rules, search source-short)
 
-pub returns-in-Nothing : goal.returns-in-Nothing
-returns-in-Nothing c = (search none-measured, search rules)
+pub row_size-requires : goal.row_size-requires
+row_size-requires c = (search lent_is, search (item-small, ends-within))
 
-pub returns-in-Row : goal.returns-in-Row
-returns-in-Row c = (search row-measured, search rules)
+pub returns-in-None : goal.returns-in-None
+returns-in-None c = (search none-measured, search rules)
+
+pub returns-then-removed : goal.returns-then-removed
+returns-then-removed c = (search gone-measured, search rules)
+
+pub returns-else-removed : goal.returns-else-removed
+returns-else-removed c = (search kept-measured, search rules)

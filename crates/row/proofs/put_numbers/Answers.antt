@@ -1,5 +1,6 @@
 -- Each number is written right after the one before it. Assumes nothing.
-use Rattle.buffer.proofs.Threes.{three-first, three-second, three_third, three-put, three-end}
+use Rattle.buffer.proofs.Threes.{three-first, three-second}
+use Rattle.row.proofs.Rows.{kind-room, kind-put, kind-end}
 use borrow.Author.Rules.{rules}
 use Rattle.row.proofs.put_numbers.Goals as goal
 
@@ -10,7 +11,7 @@ pub put-j-requires : goal.put-j-requires
 put-j-requires c = (search rules, search three-second)
 
 pub put-requires : goal.put-requires
-put-requires c = (search rules, search three_third)
+put-requires c = (search rules, search kind-room)
 
 pub returns : goal.returns
-returns c = (search three-put, search three-end)
+returns c = (search kind-put, search kind-end)

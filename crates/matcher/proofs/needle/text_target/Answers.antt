@@ -5,5 +5,5 @@ use Rattle.matcher.proofs.needle.text_target.Goals as goal
 pub returns-then-star-t : goal.returns-then-star-t
 returns-then-star-t c = search target-star
 
-pub returns : goal.returns
-returns c = search target-literal
+pub returns-else-star-t : goal.returns-else-star-t
+returns-else-star-t c = search target-literal
