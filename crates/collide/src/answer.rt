@@ -72,9 +72,10 @@ pub(crate) fn destination(a: &[u8], b: &[u8], out: &mut [u8]) -> Collision
 {
     let size = a.len() + b.len();
     if out.len() < size {
-        return short(size);
+        short(size)
+    } else {
+        let i = buffer::put(out, 0, a);
+        buffer::put(out, i, b);
+        written(size)
     }
-    let i = buffer::put(out, 0, a);
-    buffer::put(out, i, b);
-    written(size)
 }

@@ -32,12 +32,11 @@ fn target_in(spec: &[u8], r: RefSpec) -> Target
     requires { SidesWithin (length spec.now) r × (length spec.now ≤ spec_bytes) }
     ensures { Writes (side_text spec.now r.dst) (spec_meant spec.now r) result }
 {
-    let mode = r.mode;
-    if is_negative(mode) {
-        return Target::Absent;
+    if is_negative(r.mode) {
+        Target::Absent
+    } else {
+        target_of(spec, r.dst)
     }
-    let dst = r.dst;
-    target_of(spec, dst)
 }
 
 // Two patterns whose stars stand at their places.
@@ -91,10 +90,8 @@ fn two_specs(first: &[u8], s: RefSpec, second: &[u8], r: RefSpec, out: &mut [u8]
 {
     let one = target_in(first, s);
     let other = target_in(second, r);
-    let side = s.dst;
-    let t = text_of(first, b"HEAD", side);
-    let other_side = r.dst;
-    let u = text_of(second, b"HEAD", other_side);
+    let t = text_of(first, b"HEAD", s.dst);
+    let u = text_of(second, b"HEAD", r.dst);
     two_targets(t, one, u, other, out)
 }
 

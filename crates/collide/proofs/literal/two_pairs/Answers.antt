@@ -6,5 +6,5 @@ use Rattle.collide.proofs.literal.two_pairs.Goals as goal
 pub returns-then-pairs_same : goal.returns-then-pairs_same
 returns-then-pairs_same c = search (shares_as, same_some)
 
-pub returns : goal.returns
-returns c = search (none_told, same_none)
+pub returns-else-pairs_same : goal.returns-else-pairs_same
+returns-else-pairs_same c = search (none_told, same_none)
