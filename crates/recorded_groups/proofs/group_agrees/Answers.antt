@@ -1,12 +1,17 @@
 -- `group_agrees` meets its contract: the operation, both lists after their lengths in two bytes, and an answer that agrees are the record, and nothing else is. Assumes nothing.
+use mathlib.Core.Path.{sym, ◌∙◌}
+use Prim.Native.Nat.{◌≤◌}
+use native.Mathlib.Omega.{arith}
+use borrow.Author.Tests.{eqb-true, eqb-false}
+use lib.ListN.{length}
 use Rattle.recorded.proofs.Texts.{text-within, text-long, text-starts}
 use Rattle.recorded_groups.proofs.Fields.{first-long}
 use Rattle.recorded_groups.proofs.Answers.{record-none, specs-differ, items-differ, record-whole}
 use borrow.Author.Rules.{rules}
 use Rattle.recorded_groups.proofs.group_agrees.Goals as goal
 
-pub returns-then-told-lt1 : goal.returns-then-told-lt1
-returns-then-told-lt1 c = search record-none
+pub returns-then-is_empty : goal.returns-then-is_empty
+returns-then-is_empty c = record-none _ (eqb-true _ _ (sym c.is_empty.ensures ∙ c.if-is_empty.true))
 
 pub returns-in_default : goal.returns-in_default
 returns-in_default c = search specs-differ
@@ -42,4 +47,7 @@ pub answer_agrees-requires : goal.answer_agrees-requires
 answer_agrees-requires c = (search text-within, search rules)
 
 pub returns : goal.returns
-returns c = search record-whole
+returns c =
+    let some = eqb-false _ _ (sym c.is_empty.ensures ∙ c.if-is_empty.false) in
+    let n : 1 ≤ length c.args.told.now = omega (arith, some) in
+    search record-whole
