@@ -1,5 +1,5 @@
 -- Why a line of text is refused, in words.
-use Rattle.std.specs.Prelude.{ℕ, ◌-◌, ◌≤◌, ◌≡◌, cond, List, [], ◌∷◌, ◌++◌, leb, length, get_or, replicate}
+use Rattle.std.specs.Prelude.{ℕ, ◌-◌, cond, List, [], ◌∷◌, leb, get_or}
 use Rattle.meaning.specs.Bytes.{Text, bytes, ◌and◌}
 
 -- the phrases: of document 01's numbers 0 to 15, of which 0 and 13 are given to no line, then of our own from 101 on
@@ -41,17 +41,3 @@ place_of n = cond (leb n 15) n (cond (leb 101 n and leb n 106) (n - 85) 0)
 -- the words for a reason
 unfoldable pub reason_words : ℕ → Text
 reason_words n = phrase_at (place_of n)
-
--- bytes of the array that holds a phrase
-abbrev pub words_room : ℕ
-words_room = 60
-
--- a phrase with zeros after it
-abbrev pub padded : Text → Text
-padded t = t ++ replicate (words_room - length t) 0
-
--- an array and a length spell a text
-pub record Spells (t array : Text) (size : ℕ) : Type 0 where
-  pub spells : array ≡ padded t
-  pub counts : size ≡ length t
-  pub within : size ≤ length array

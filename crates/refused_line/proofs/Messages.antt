@@ -15,8 +15,8 @@ use Rattle.buffer.proofs.Splices.{splice-none}
 use Rattle.buffer.proofs.Pairs.{pair-first, pair-second, pair_put, pair_end}
 use Rattle.buffer.proofs.Threes.{three-first, three-second, three_third, three-put, three-end}
 use Rattle.print.proofs.Decimals.{digits-few}
-use Rattle.refusal_words.specs.Words.{reason_words, Spells}
-use Rattle.refusal_words.proofs.Phrases.{reason-short, spells-text}
+use Rattle.refusal_words.specs.Words.{reason_words}
+use Rattle.refusal_words.proofs.Phrases.{reason-short}
 use Rattle.refused_line.specs.Byte.{line_byte}
 use Rattle.refused_line.specs.Message.{most_digits, numeral, hexadecimal, byte_itself, byte_words, byte_told, line_told, refused_line, message_most}
 
@@ -37,60 +37,6 @@ numeral-few : (n : ℕ) → length (numeral n) ≤ most_digits
 unfolding numeral
 numeral-few n = digits-few most_digits n
 
--- words in an array
-module _ (t array : Text) (size : ℕ) (s : Spells t array size) (d : Text) (at : ℕ) where
-  pub words-room : at + length t ≤ length d → at + size ≤ length d
-  words-room h = omega (arith, s.counts)
-
-  pub words-put : (o : Text) → o ≡ splice d at (take size array) → o ≡ splice d at t
-  words-put o e = e ∙ ap (splice d at) (spells-text t array size s)
-
-  pub words-end : (r : ℕ) → r ≡ at + size → r ≡ at + length t
-  words-end r e = omega (arith, s.counts)
-
-pub taken-room : (d array : Text) (at size : ℕ) → at + size ≤ length d → size ≤ length array → at + length (take size array) ≤ length d
-taken-room d array at size h l = omega (arith, length-take-le size array l)
-
-pub taken-end : (array : Text) (at size r : ℕ) → size ≤ length array → r ≡ at + length (take size array) → r ≡ at + size
-taken-end array at size r l e = omega (arith, length-take-le size array l)
-
--- a byte as a number
-pub hexadecimal-spelled : (b x y : ℕ) → x ≡ capital_digit (b / 16) → y ≡ capital_digit (b % 16) → Spells (hexadecimal b) (48 ∷ 120 ∷ x ∷ y ∷ replicate 56 0) 4
-unfolding hexadecimal
-hexadecimal-spelled b x y ex ey = record { spells = rw (ex, ey); counts = refl; within = omega arith }
-
--- a byte in words, by what it is
-module _ (b : ℕ) (array : Text) (size : ℕ) where
-  pub itself-low : b < 33 → Spells (hexadecimal b) array size → Spells (byte_itself b) array size
-  unfolding byte_itself
-  itself-low h s = rw (lt-leb 33 b h) s
-
-  pub itself-high : 126 < b → Spells (hexadecimal b) array size → Spells (byte_itself b) array size
-  unfolding byte_itself
-  itself-high h s = rw (le-leb 33 b (omega arith), lt-leb b 126 h) s
-
-  pub itself-seen : 33 ≤ b → b ≤ 126 → Spells (96 ∷ b ∷ 96 ∷ []) array size → Spells (byte_itself b) array size
-  unfolding byte_itself
-  itself-seen h l s = rw (le-leb 33 b h, le-leb b 126 l) s
-
-  pub words-tab : b ≡ 9 → Spells (bytes "a tab") array size → Spells (byte_words b) array size
-  unfolding byte_words
-  words-tab e s = rw (eq-eqb b 9 e) s
-
-  module _ (t : b ≡ 9 → ⊥) where
-    pub words-return : b ≡ 13 → Spells (bytes "a carriage return") array size → Spells (byte_words b) array size
-    unfolding byte_words
-    words-return e s = rw (ne_eqb b 9 t, eq-eqb b 13 e) s
-
-    module _ (c : b ≡ 13 → ⊥) where
-      pub words-space : b ≡ 32 → Spells (bytes "a space") array size → Spells (byte_words b) array size
-      unfolding byte_words
-      words-space e s = rw (ne_eqb b 9 t, ne_eqb b 13 c, eq-eqb b 32 e) s
-
-      pub words-itself : (b ≡ 32 → ⊥) → Spells (byte_itself b) array size → Spells (byte_words b) array size
-      unfolding byte_words
-      words-itself n s = rw (ne_eqb b 9 t, ne_eqb b 13 c, ne_eqb b 32 n) s
-
 -- the longest has 17 bytes
 words-few : (b : ℕ) → length (byte_words b) ≤ 17
 unfolding byte_words byte_itself hexadecimal
@@ -102,21 +48,6 @@ words-few b = go (eqb b 9) (eqb b 13) (eqb b 32) (leb 33 b and leb b 126)
     go false false true s = omega arith
     go false false false true = omega arith
     go false false false false = omega arith
-
--- after a verb
-module _ (b : ℕ) (d : Text) (at : ℕ) (fits : at + length (bytes " is " ++ byte_words b) ≤ length d) where
-  pub is-first : at + length (bytes " is ") ≤ length d
-  is-first = pair-first d at (bytes " is ") (byte_words b) fits
-
-  module _ (o : Text) (i : ℕ) (eo : o ≡ splice d at (bytes " is ")) (ei : i ≡ at + length (bytes " is ")) (array : Text) (size : ℕ) (s : Spells (byte_words b) array size) where
-    pub is-second : i + size ≤ length o
-    is-second = words-room (byte_words b) array size s o i (pair-second d at (bytes " is ") (byte_words b) fits o i eo ei)
-
-    pub is-put : (p : Text) → p ≡ splice o i (take size array) → p ≡ splice d at (bytes " is " ++ byte_words b)
-    is-put p e = pair_put d at (bytes " is ") (byte_words b) fits o i eo ei p (words-put (byte_words b) array size s o i p e)
-
-    pub is-end : (r : ℕ) → r ≡ i + size → r ≡ at + length (bytes " is " ++ byte_words b)
-    is-end r e = pair_end d at (bytes " is ") (byte_words b) fits o i eo ei r (words-end (byte_words b) array size s o i r e)
 
 -- before a line feed
 pub feed-room : (t d : Text) (at : ℕ) → at + length (t ++ (10 ∷ [])) ≤ length d → (o : Text) (i : ℕ) → o ≡ splice d at t → i ≡ at + length t → i < length o

@@ -1,12 +1,12 @@
 //! What is said of a refused line: its number, the reason in words, and which byte it is about.
 #![tactic(auto)]
 
-ghost use Rattle.std.specs.Prelude.{◌≡◌, [], ◌∷◌, ◌++◌, ◌+◌, ◌≤◌, length, take};
+ghost use Rattle.std.specs.Prelude.{◌≡◌, [], ◌∷◌, ◌++◌, ◌+◌, ◌≤◌, length};
 ghost use Rattle.meaning.specs.Limits.{program_bytes};
 ghost use Rattle.meaning.specs.Bytes.{bytes};
 ghost use Rattle.buffer.specs.Splice.{splice};
-ghost use Rattle.refusal_words.specs.Words.{reason_words, Spells};
-ghost use Rattle.refused_line.specs.Message.{numeral, hexadecimal, byte_itself, byte_words, byte_told, line_told, refused_line, message_most};
+ghost use Rattle.refusal_words.specs.Words.{reason_words};
+ghost use Rattle.refused_line.specs.Message.{numeral, byte_words, byte_told, line_told, refused_line, message_most};
 
 mod byte;
 
@@ -14,7 +14,7 @@ use buffer::{put, put_byte};
 use byte::line_byte;
 use print::decimal::put_digits;
 use print::shown::capital_digit;
-use refusal_words::{Words, reason};
+use refusal_words::reason;
 
 // The most digits of a machine's number.
 const MOST_DIGITS: usize = 20;
@@ -30,75 +30,20 @@ fn put_number(out: &mut [u8], at: usize, n: usize) -> usize
     put_digits(out, at, MOST_DIGITS, n)
 }
 
-// Writes words, and answers the place after them.
-fn put_words(out: &mut [u8], at: usize, w: Words) -> usize
-    requires { (at + w.1 ≤ length out.old) × (w.1 ≤ length w.0) }
-    ensures { (out.new ≡ splice out.old at (take w.1 w.0)) × (result ≡ at + w.1) }
+// Writes a byte in words, and answers the place after them: a blank by its name, what can be seen between two backticks, any other as `0x`
+// and two hexadecimal digits.
+#[tactic(auto, unfolding(crate::specs::Message::byte_words, crate::specs::Message::byte_itself, crate::specs::Message::hexadecimal))]
+fn put_byte_words(out: &mut [u8], at: usize, b: u8) -> usize
+    requires { at + length (byte_words b) ≤ length out.old }
+    ensures { (out.new ≡ splice out.old at (byte_words b)) × (result ≡ at + length (byte_words b)) }
 {
-    let t = w.0;
-    let n = w.1;
-    put(out, at, &t[..n])
-}
-
-// A byte that can be seen, between two backticks.
-fn seen(b: u8) -> Words
-    ensures { Spells (96 ∷ b ∷ 96 ∷ []) result.0 result.1 }
-{
-    let mut t = [0u8; 60];
-    t[0] = b'`';
-    t[1] = b;
-    t[2] = b'`';
-    Words(t, 3)
-}
-
-// `0x` and two hexadecimal digits.
-fn hexadecimal(b: u8) -> Words
-    ensures { Spells (hexadecimal b) result.0 result.1 }
-{
-    let mut t = [0u8; 60];
-    t[0] = b'0';
-    t[1] = b'x';
-    t[2] = capital_digit(b / 16);
-    t[3] = capital_digit(b % 16);
-    Words(t, 4)
-}
-
-// A byte that is no blank.
-fn byte_itself(b: u8) -> Words
-    ensures { Spells (byte_itself b) result.0 result.1 }
-{
-    if b < 33 {
-        return hexadecimal(b);
+    match b {
+        b'\t' => put(out, at, b"a tab"),
+        b'\r' => put(out, at, b"a carriage return"),
+        b' ' => put(out, at, b"a space"),
+        33..=126 => put(out, at, &[b'`', b, b'`']),
+        _ => put(out, at, &[b'0', b'x', capital_digit(b / 16), capital_digit(b % 16)]),
     }
-    if 126 < b {
-        return hexadecimal(b);
-    }
-    seen(b)
-}
-
-// A byte in words.
-fn byte_words(b: u8) -> Words
-    ensures { Spells (byte_words b) result.0 result.1 }
-{
-    if b == b'\t' {
-        return Words(
-            *b"a tab\0\0\0\0\0\0\0\0\0\0\0\0\0\0\0\0\0\0\0\0\0\0\0\0\0\0\0\0\0\0\0\0\0\0\0\0\0\0\0\0\0\0\0\0\0\0\0\0\0\0\0\0\0\0\0",
-            5,
-        );
-    }
-    if b == b'\r' {
-        return Words(
-            *b"a carriage return\0\0\0\0\0\0\0\0\0\0\0\0\0\0\0\0\0\0\0\0\0\0\0\0\0\0\0\0\0\0\0\0\0\0\0\0\0\0\0\0\0\0\0",
-            17,
-        );
-    }
-    if b == b' ' {
-        return Words(
-            *b"a space\0\0\0\0\0\0\0\0\0\0\0\0\0\0\0\0\0\0\0\0\0\0\0\0\0\0\0\0\0\0\0\0\0\0\0\0\0\0\0\0\0\0\0\0\0\0\0\0\0\0\0\0\0",
-            7,
-        );
-    }
-    byte_itself(b)
 }
 
 // Writes what a byte is, and answers the place after it.
@@ -107,7 +52,7 @@ fn put_is(out: &mut [u8], at: usize, b: u8) -> usize
     ensures { (out.new ≡ splice out.old at (bytes " is " ++ byte_words b)) × (result ≡ at + length (bytes " is " ++ byte_words b)) }
 {
     let i = put(out, at, b" is ");
-    put_words(out, i, byte_words(b))
+    put_byte_words(out, i, b)
 }
 
 // Writes which byte of a line it is about, if about one, and answers the place after it.
@@ -137,7 +82,7 @@ fn put_reason(out: &mut [u8], at: usize, n: u64) -> usize
     requires { at + length (reason_words n) ≤ length out.old }
     ensures { (out.new ≡ splice out.old at (reason_words n)) × (result ≡ at + length (reason_words n)) }
 {
-    put_words(out, at, reason(n))
+    put(out, at, reason(n))
 }
 
 // Writes the number of a line, and answers the place after it.
