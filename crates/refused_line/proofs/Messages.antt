@@ -1,23 +1,23 @@
 -- What is said of a refused line, piece by piece. Assumes nothing.
-use mathlib.Core.Path.{◌≡◌, refl, sym, ap, ◌∙◌}
+use mathlib.Core.Path.{◌≡◌, sym}
 use mathlib.Core.Bool.{Bool, true, false, cond}
 use mathlib.Core.List.{[], ◌∷◌, ◌++◌}
-use Prim.Native.Nat.{ℕ, zero, suc, ◌+◌, ◌-◌, ◌/◌, ◌%◌, ◌<◌, ◌≤◌}
+use Prim.Native.Nat.{ℕ, zero, suc, ◌+◌, ◌/◌, ◌%◌, ◌<◌, ◌≤◌}
 use native.Mathlib.Omega.{arith}
-use borrow.Author.Tests.{eq-eqb, ne_eqb, le-leb, lt-leb}
+use Rattle.std.specs.Prelude.{Option, Some, None}
+use Rattle.std.proofs.Common.{add-one}
 use lib.Dec.{eqb, leb}
-use lib.ListN.{length, take, get_or, replicate, length-append}
-use lib.Seq.{length-take-le}
+use lib.ListN.{length, get_or, length-append}
 use Rattle.meaning.specs.Bytes.{Text, bytes, ◌and◌}
 use Rattle.meaning.specs.Deliveries.{digits, capital_digit}
 use Rattle.buffer.specs.Splice.{splice}
 use Rattle.buffer.proofs.Splices.{splice-none}
-use Rattle.buffer.proofs.Pairs.{pair-first, pair-second, pair_put, pair_end}
+use Rattle.buffer.proofs.Pairs.{pair-second}
 use Rattle.buffer.proofs.Threes.{three-first, three-second, three_third, three-put, three-end}
 use Rattle.print.proofs.Decimals.{digits-few}
 use Rattle.refusal_words.specs.Words.{reason_words}
 use Rattle.refusal_words.proofs.Phrases.{reason-short}
-use Rattle.refused_line.specs.Byte.{line_byte}
+use Rattle.refused_line.specs.Byte.{counted, line_byte}
 use Rattle.refused_line.specs.Message.{most_digits, numeral, hexadecimal, byte_itself, byte_words, byte_told, line_told, refused_line, message_most}
 
 -- a number
@@ -54,40 +54,37 @@ pub feed-room : (t d : Text) (at : ℕ) → at + length (t ++ (10 ∷ [])) ≤ l
 feed-room t d at fits o i eo ei = omega (arith, pair-second d at t (10 ∷ []) fits o i eo ei)
 
 -- which byte it is about
-told-some : (l : Text) (n : ℕ) → (n ≡ 0 → ⊥) → byte_told l n ≡ bytes ": byte " ++ (numeral n ++ (bytes " is " ++ byte_words (get_or l (n - 1) 0)))
-told-some l zero z = absurd (z refl)
-told-some l (suc n) z = let e : suc n - 1 ≡ n = omega arith in rw e
+module _ (l d : Text) (at : ℕ) (o : Option ℕ) where
+  pub told-none : o ≡ None → (d ≡ splice d at (byte_told l (counted o))) × (at ≡ at + length (byte_told l (counted o)))
+  told-none e = rw e (sym (splice-none d at), omega arith)
 
-module _ (l d : Text) (at n : ℕ) where
-  pub told_none : n ≡ 0 → d ≡ splice d at (byte_told l n)
-  told_none e = rw e (sym (splice-none d at))
-
-  pub told-none-end : n ≡ 0 → at ≡ at + length (byte_told l n)
-  told-none-end e = rw e (omega arith)
-
-  module _ (some : n ≡ 0 → ⊥) (fits : at + length (byte_told l n) ≤ length d) where
+  module _ (k : ℕ) (e : o ≡ Some k) where
     abbrev tail : Text
-    tail = bytes " is " ++ byte_words (get_or l (n - 1) 0)
+    tail = bytes " is " ++ byte_words (get_or l k 0)
 
-    pieces : at + length (bytes ": byte " ++ (numeral n ++ tail)) ≤ length d
-    pieces = rw (told-some l n some) at fits
+    told-some : byte_told l (counted o) ≡ bytes ": byte " ++ (numeral (k + 1) ++ tail)
+    told-some = rw (e, add-one)
 
-    pub told-first : at + length (bytes ": byte ") ≤ length d
-    told-first = three-first d at (bytes ": byte ") (numeral n) tail pieces
+    module _ (fits : at + length (byte_told l (counted o)) ≤ length d) where
+      pieces : at + length (bytes ": byte " ++ (numeral (k + 1) ++ tail)) ≤ length d
+      pieces = rw told-some at fits
 
-    module _ (o : Text) (i : ℕ) (eo : o ≡ splice d at (bytes ": byte ")) (ei : i ≡ at + length (bytes ": byte ")) where
-      pub told-second : i + length (numeral n) ≤ length o
-      told-second = three-second d at (bytes ": byte ") (numeral n) tail pieces o i eo ei
+      pub told-first : at + length (bytes ": byte ") ≤ length d
+      told-first = three-first d at (bytes ": byte ") (numeral (k + 1)) tail pieces
 
-      module _ (p : Text) (j : ℕ) (ep : p ≡ splice o i (numeral n)) (ej : j ≡ i + length (numeral n)) where
-        pub told-third : j + length tail ≤ length p
-        told-third = three_third d at (bytes ": byte ") (numeral n) tail pieces o i eo ei p j ep ej
+      module _ (p : Text) (i : ℕ) (ep : p ≡ splice d at (bytes ": byte ")) (ei : i ≡ at + length (bytes ": byte ")) where
+        pub told-second : i + length (numeral (k + 1)) ≤ length p
+        told-second = three-second d at (bytes ": byte ") (numeral (k + 1)) tail pieces p i ep ei
 
-        pub told-put : (q : Text) → q ≡ splice p j tail → q ≡ splice d at (byte_told l n)
-        told-put q e = rw (told-some l n some) (three-put d at (bytes ": byte ") (numeral n) tail pieces o i eo ei p j ep ej q e)
+        module _ (q : Text) (j : ℕ) (eq : q ≡ splice p i (numeral (k + 1))) (ej : j ≡ i + length (numeral (k + 1))) where
+          pub told-third : j + length tail ≤ length q
+          told-third = three_third d at (bytes ": byte ") (numeral (k + 1)) tail pieces p i ep ei q j eq ej
 
-        pub told-end : (k : ℕ) → k ≡ j + length tail → k ≡ at + length (byte_told l n)
-        told-end k e = rw (told-some l n some) (three-end d at (bytes ": byte ") (numeral n) tail pieces o i eo ei p j ep ej k e)
+          pub told-put : (r : Text) → r ≡ splice q j tail → r ≡ splice d at (byte_told l (counted o))
+          told-put r f = rw told-some (three-put d at (bytes ": byte ") (numeral (k + 1)) tail pieces p i ep ei q j eq ej r f)
+
+          pub told-end : (n : ℕ) → n ≡ j + length tail → n ≡ at + length (byte_told l (counted o))
+          told-end n f = rw told-some (three-end d at (bytes ": byte ") (numeral (k + 1)) tail pieces p i ep ei q j eq ej n f)
 
 -- the number of the line
 module _ (d : Text) (at k : ℕ) (fits : at + length (line_told k) ≤ length d) where

@@ -1,10 +1,10 @@
 -- A side that passes the name rules has no byte that they refuse wherever it stands. Assumes nothing.
-use mathlib.Core.Path.{◌≡◌, refl, ap}
+use mathlib.Core.Path.{◌≡◌, refl}
 use mathlib.Core.Bool.{true, false, not}
 use mathlib.Core.List.{[], ◌∷◌}
 use borrow.Author.Tests.{not-true}
 use lib.Dec.{eqb}
-use Rattle.meaning.specs.Bytes.{Text, ◌and◌, every, empty, any, has_byte}
+use Rattle.meaning.specs.Bytes.{Text, every, empty, any, has_byte}
 use Rattle.meaning.specs.Names.{parts_pass, no_two_dots, rule_four_byte, no_controls, rule_five_byte, no_globs, slashes_pass, no_last_dot, no_at_brace, not_at, no_backslash, name_passes, star_as_a, star_as_letter, side_passes}
 use Rattle.promises.proofs.Laws.{and_left, and_right, or-none}
 use Rattle.name.specs.Rules.{name_byte}

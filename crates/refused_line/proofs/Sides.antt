@@ -1,21 +1,22 @@
 -- The sides of a spec by its sign and its last colon, and the first byte of each that the name rules refuse. Assumes nothing.
 use mathlib.Core.Path.{◌≡◌, refl, sym, ap, ◌∙◌}
 use mathlib.Core.List.{[], ◌∷◌}
-use Prim.Native.Nat.{ℕ, ◌+◌, ◌-◌, ◌<◌, ◌≤◌}
+use Prim.Native.Nat.{ℕ, suc, ◌+◌, ◌-◌, ◌<◌, ◌≤◌}
 use native.Mathlib.Omega.{arith}
-use borrow.Author.Tests.{eq-eqb, ne_eqb}
+use Rattle.std.specs.Prelude.{Option, Some, None, position}
+use Rattle.std.proofs.lemmas.List.Quantifiers.{position-Some}
 use lib.ListN.{length, take, drop, get_or, length-take, length-drop}
 use lib.Seq.{drop-drop}
 use Rattle.meaning.specs.Bytes.{Text, colon}
-use Rattle.meaning.specs.Limits.{program_bytes}
-use Rattle.meaning.specs.Spec.{mode_of_byte, mode_of, unsigned, Sides, one, two, sides_of, left, right}
+use Rattle.meaning.specs.Spec.{mode_of_byte, mode_of, unsigned, one, two, sides_of, left, right}
 use Rattle.text.specs.Last.{past_last}
 use Rattle.text.proofs.Rests.{rest_end, rest_part}
 use Rattle.text.proofs.Scans.{byte-is, byte-other}
 use Rattle.text.proofs.Sides.{sides-one, sides-two}
 use Rattle.parse.specs.Places.{sign_length}
 use Rattle.parse.proofs.Places.{unsigned-drop, sign-within}
-use Rattle.refused_line.specs.Byte.{past, first_of, refused_byte, source_byte, destination_byte, spec_byte, SidesAt}
+use Rattle.refused_line.specs.Byte.{past, counted, refused_byte, source_byte, destination_byte, SidesAt}
+use Rattle.refused_line.proofs.Bytes.{counted-position}
 
 -- the sign, by the first byte
 pub sign-none : (t : Text) → length t ≡ 0 → 0 ≡ sign_length (mode_of t)
@@ -78,45 +79,31 @@ module _ (t : Text) (start : ℕ) (es : start ≡ sign_length (mode_of t)) (n : 
         }
 
 -- the first byte of a side that the name rules refuse
-module _ (t : Text) (start end rest : ℕ) (s : SidesAt t start end rest) (m : ℕ) where
-  module _ (few : m ≤ length (take (end - start) (drop start t))) where
-    pub source-within : start + m ≤ length t
-    source-within = let h : m ≤ end - start = omega (arith, length-take (end - start) (drop start t)) in omega (arith, s.starts, s.ends)
+module _ (t : Text) (start end rest : ℕ) (s : SidesAt t start end rest) (o : Option ℕ) where
+  module _ (e : o ≡ position refused_byte (take (end - start) (drop start t))) where
+    source-found : past start (counted o) ≡ source_byte t
+    unfolding source_byte
+    source-found = rw (e, counted-position refused_byte (take (end - start) (drop start t)), s.source_is, s.start_is)
 
-    pub source-small : length t ≤ program_bytes → start + m ≤ program_bytes
-    source-small h = omega (arith, source-within)
+    pub source-none : o ≡ None → (r : Option ℕ) → r ≡ None → (counted r ≡ source_byte t) × (counted r ≤ length t)
+    source-none n r f = rw f (rw n at source-found, omega arith)
 
-  pub source-found : m ≡ first_of refused_byte (take (end - start) (drop start t)) → (r : ℕ) → r ≡ past start m → r ≡ source_byte t
-  unfolding source_byte
-  source-found e r f = f ∙ rw (e, s.source_is, s.start_is)
+    pub source-some : (i : ℕ) → o ≡ Some i → (suc (start + i) ≡ source_byte t) × (suc (start + i) ≤ length t)
+    source-some i n =
+        let h : i < length (take (end - start) (drop start t)) = (position-Some refused_byte _ i 0 (sym e ∙ n)).0 in
+        (omega arith ∙ rw n at source-found, omega (arith, length-take (end - start) (drop start t), s.starts, s.ends))
 
-  module _ (few : m ≤ length (take (length t - rest) (drop rest t))) where
-    pub destination-within : rest + m ≤ length t
-    destination-within = let h : m ≤ length t - rest = rw (rest_part, length-drop) at few in omega (arith, s.within)
+  module _ (e : o ≡ position refused_byte (take (length t - rest) (drop rest t))) where
+    destination-found : past rest (counted o) ≡ destination_byte t
+    unfolding destination_byte
+    destination-found =
+        let p : length t - length (right (sides_of (unsigned t))) ≡ rest = omega (arith, ap length s.destination-is, length-drop rest t, s.within) in
+        rw (e, counted-position refused_byte (take (length t - rest) (drop rest t)), rest_part t rest, s.destination-is, p)
 
-    pub destination-small : length t ≤ program_bytes → rest + m ≤ program_bytes
-    destination-small h = omega (arith, destination-within)
+    pub destination-none : o ≡ None → (r : Option ℕ) → r ≡ None → (counted r ≡ destination_byte t) × (counted r ≤ length t)
+    destination-none n r f = rw f (rw n at destination-found, omega arith)
 
-  pub destination-found : m ≡ first_of refused_byte (take (length t - rest) (drop rest t)) → (r : ℕ) → r ≡ past rest m → r ≡ destination_byte t
-  unfolding destination_byte
-  destination-found e r f =
-      let p : length t - length (right (sides_of (unsigned t))) ≡ rest = omega (arith, ap length s.destination-is, length-drop rest t, s.within) in
-      f ∙ rw (e, rest_part t rest, s.destination-is, p)
-
--- a number that was counted is within the text
-pub counted-within : (k m r : ℕ) (t : Text) → r ≤ k + m → k + m ≤ length t → r ≤ length t
-counted-within k m r t h l = omega arith
-
--- which side a refusal is about
-module _ (n : ℕ) (t : Text) (r : ℕ) where
-  pub spec-source : n ≡ 6 → r ≡ source_byte t → r ≡ spec_byte n t
-  unfolding spec_byte
-  spec-source e f = rw (eq-eqb n 6 e) f
-
-  pub spec-destination : (n ≡ 6 → ⊥) → n ≡ 8 → r ≡ destination_byte t → r ≡ spec_byte n t
-  unfolding spec_byte
-  spec-destination z e f = rw (ne_eqb n 6 z, eq-eqb n 8 e) f
-
-pub spec-neither : (n : ℕ) (t : Text) → (n ≡ 6 → ⊥) → (n ≡ 8 → ⊥) → 0 ≡ spec_byte n t
-unfolding spec_byte
-spec-neither n t z e = rw (ne_eqb n 6 z, ne_eqb n 8 e)
+    pub destination-some : (i : ℕ) → o ≡ Some i → (suc (rest + i) ≡ destination_byte t) × (suc (rest + i) ≤ length t)
+    destination-some i n =
+        let h : i < length (take (length t - rest) (drop rest t)) = (position-Some refused_byte _ i 0 (sym e ∙ n)).0 in
+        (omega arith ∙ rw n at destination-found, omega (arith, length-take (length t - rest) (drop rest t), s.within))

@@ -1,5 +1,5 @@
 -- Which byte of a line a refusal is about, counted from 1; 0 where it is about none.
-use Rattle.std.specs.Prelude.{ℕ, zero, suc, ◌+◌, ◌-◌, ◌≤◌, ◌≡◌, Bool, true, false, not, cond, [], ◌∷◌, eqb, ltb, length, take, drop}
+use Rattle.std.specs.Prelude.{ℕ, zero, suc, ◌+◌, ◌-◌, ◌≤◌, ◌≡◌, Bool, true, false, not, cond, [], ◌∷◌, eqb, ltb, length, take, drop, Option, Some, None}
 use Rattle.meaning.specs.Bytes.{Text, bytes, any}
 use Rattle.meaning.specs.Names.{star_as_a, side_passes}
 use Rattle.meaning.specs.Spec.{mode_of, unsigned, sides_of, left, right}
@@ -13,6 +13,11 @@ use Rattle.text_lists.specs.Line.{Held, nothing, marked, unknown, fetch, push, n
 abbrev pub past : ℕ → ℕ → ℕ
 past k zero = 0
 past k (suc n) = k + suc n
+
+-- a place as the code answers it, counted from 1; 0 where there is none
+abbrev pub counted : Option ℕ → ℕ
+counted None = 0
+counted (Some i) = suc i
 
 -- the first byte that passes a test
 abbrev pub first_of : (ℕ → Bool) → Text → ℕ

@@ -1,11 +1,10 @@
-// Which byte of a line a refusal is about, counted from 1; 0 where it is about none.
-ghost use Rattle.std.specs.Prelude.{◌≡◌, ◌+◌, ◌≤◌, length, drop};
+// Which byte of a line a refusal is about, if about one.
+ghost use Rattle.std.specs.Prelude.{◌≡◌, ◌≤◌, ℕ, length, position, take_while, zip, nat_eq};
 ghost use Rattle.meaning.specs.Limits.{program_bytes};
 ghost use Rattle.meaning.specs.Spec.{mode_of};
-ghost use Rattle.text.specs.Last.{later};
 ghost use Rattle.parse.specs.Places.{sign_length};
 ghost use Rattle.print.specs.Unshown.{unshown};
-ghost use Rattle.refused_line.specs.Byte.{past, first_of, byte_after, refused_byte, source_byte, destination_byte, spec_byte, unshown_byte, alike, known, line_byte, SidesAt};
+ghost use Rattle.refused_line.specs.Byte.{counted, first_of, byte_after, refused_byte, source_byte, destination_byte, spec_byte, unshown_byte, alike, known, line_byte, SidesAt};
 
 use percent::{Measured, measure};
 use text::last::past_last;
@@ -19,50 +18,27 @@ struct Sides {
     rest: usize,
 }
 
-// A number that counts from a place on, counted from the start; 0 stays 0.
-fn past(k: usize, n: usize) -> usize
-    requires { k + n ≤ program_bytes }
-    ensures { (result ≡ past k n) × (result ≤ k + n) }
-{
-    if n == 0 {
-        return 0;
-    }
-    k + n
-}
-
-// The byte after the first k, if there is one.
-fn byte_after(k: usize, t: &[u8]) -> usize
-    ensures { (result ≡ byte_after k t.now) × (result ≤ length t.now) }
-{
-    if k < t.len() {
-        return k + 1;
-    }
-    0
-}
-
 // A byte that the name rules refuse wherever it stands; a star is read as the letter a.
+#[tactic(auto, using(std::proofs::lemmas::Bool::Decides::nat_tests), unfolding(crate::specs::Byte::refused_byte, name::specs::Rules::name_byte, meaning::specs::Names::rule_four_byte, meaning::specs::Names::rule_five_byte))]
 fn is_refused(b: u8) -> bool
     ensures { result ≡ refused_byte b }
 {
-    match b {
-        0..=32 => true,
-        b':' | b'?' | b'[' | b'\\' | b'^' | b'~' | 127 => true,
-        _ => false,
-    }
+    matches!(b, 0..=32 | b':' | b'?' | b'[' | b'\\' | b'^' | b'~' | 127)
 }
 
 // The first such byte of a text.
-fn first_refused(s: &[u8]) -> usize
-    ensures { (result ≡ first_of refused_byte s.now) × (result ≤ length s.now) }
+fn first_refused(s: &[u8]) -> Option<usize>
+    ensures { result ≡ position refused_byte s.now }
 {
-    let mut i = 0;
-    while i < s.len() {
-        if is_refused(s[i]) {
-            return i + 1;
-        }
-        i += 1;
-    }
-    0
+    s.iter().position(|b| is_refused(*b))
+}
+
+// The byte after the first k, if there is one.
+#[tactic(auto, unfolding(crate::specs::Byte::byte_after))]
+fn byte_after(k: usize, t: &[u8]) -> Option<usize>
+    ensures { (counted result ≡ byte_after k t.now) × (counted result ≤ length t.now) }
+{
+    if k < t.len() { Some(k) } else { None }
 }
 
 // How many bytes the sign of a spec takes.
@@ -102,114 +78,71 @@ fn split(t: &[u8]) -> Sides
 }
 
 // The first byte of a spec's source that the name rules refuse.
-fn source_byte(t: &[u8]) -> usize
-    requires { length t.now ≤ program_bytes }
-    ensures { (result ≡ source_byte t.now) × (result ≤ length t.now) }
+fn source_byte(t: &[u8]) -> Option<usize>
+    ensures { (counted result ≡ source_byte t.now) × (counted result ≤ length t.now) }
 {
     let s = split(t);
-    let start = s.start;
-    let end = s.end;
-    past(start, first_refused(&t[start..end]))
+    let i = first_refused(&t[s.start..s.end])?;
+    Some(s.start + i)
 }
 
 // The first byte of its destination that they refuse.
-fn destination_byte(t: &[u8]) -> usize
-    requires { length t.now ≤ program_bytes }
-    ensures { (result ≡ destination_byte t.now) × (result ≤ length t.now) }
+fn destination_byte(t: &[u8]) -> Option<usize>
+    ensures { (counted result ≡ destination_byte t.now) × (counted result ≤ length t.now) }
 {
     let s = split(t);
-    let rest = s.rest;
-    past(rest, first_refused(&t[rest..]))
+    let i = first_refused(&t[s.rest..])?;
+    Some(s.rest + i)
 }
 
 // Of a spec that is refused.
-fn spec_byte(n: u64, t: &[u8]) -> usize
-    requires { length t.now ≤ program_bytes }
-    ensures { (result ≡ spec_byte n t.now) × (result ≤ length t.now) }
+#[tactic(auto, unfolding(crate::specs::Byte::spec_byte))]
+fn spec_byte(n: u64, t: &[u8]) -> Option<usize>
+    ensures { (counted result ≡ spec_byte n t.now) × (counted result ≤ length t.now) }
 {
-    if n == 6 {
-        return source_byte(t);
+    match n {
+        6 => source_byte(t),
+        8 => destination_byte(t),
+        _ => None,
     }
-    if n == 8 {
-        return destination_byte(t);
-    }
-    0
 }
 
 // Of a name as a listing shows it.
-fn unshown_byte(t: &[u8]) -> usize
-    ensures { (result ≡ unshown_byte t.now (unshown t.now)) × (result ≤ length t.now) }
+fn unshown_byte(t: &[u8]) -> Option<usize>
+    ensures { (counted result ≡ unshown_byte t.now (unshown t.now)) × (counted result ≤ length t.now) }
 {
     match measure(t) {
-        Measured::Size(_) => 0,
+        Measured::Size(_) => None,
         Measured::Fault(k) => byte_after(k, t),
     }
 }
 
 // How many bytes two texts begin with alike.
 fn alike(p: &[u8], t: &[u8]) -> usize
-    ensures { result ≡ alike p.now t.now }
+    ensures { result ≡ length (take_while (λ (z : ℕ × ℕ). nat_eq z.0 z.1) (zip p.now t.now)) }
 {
-    let mut i = 0;
-    while i < p.len() {
-        if t.len() <= i {
-            return i;
-        }
-        if p[i] != t[i] {
-            return i;
-        }
-        i += 1;
-    }
-    i
-}
-
-// The later of two places.
-fn later(a: usize, b: usize) -> usize
-    ensures { result ≡ later a b }
-{
-    if a < b {
-        return b;
-    }
-    a
+    p.iter().zip(t).take_while(|(a, b)| a == b).count()
 }
 
 // How many bytes of a line a line of a known kind begins with.
 fn known(t: &[u8]) -> usize
     ensures { result ≡ known t.now }
 {
-    let specs = later(alike(b"fetch ", t), alike(b"push ", t));
-    let names = later(alike(b"name ", t), alike(b"shown ", t));
-    later(specs, names)
-}
-
-// Of a line that holds a spec from a place on.
-fn spec_from(n: u64, line: &[u8], start: usize) -> usize
-    requires { (start ≤ length line.now) × (length line.now ≤ program_bytes) }
-    ensures { (result ≡ past start (spec_byte n (drop start line.now))) × (result ≤ length line.now) }
-{
-    past(start, spec_byte(n, &line[start..]))
-}
-
-// Of a line that holds a name from a place on, as a listing shows it.
-fn unshown_from(line: &[u8], start: usize) -> usize
-    requires { (start ≤ length line.now) × (length line.now ≤ program_bytes) }
-    ensures { (result ≡ past start (unshown_byte (drop start line.now) (unshown (drop start line.now)))) × (result ≤ length line.now) }
-{
-    past(start, unshown_byte(&line[start..]))
+    let specs = alike(b"fetch ", t).max(alike(b"push ", t));
+    let names = alike(b"name ", t).max(alike(b"shown ", t));
+    specs.max(names)
 }
 
 // Of a line that is refused for a reason.
-pub(crate) fn line_byte(n: u64, line: &[u8]) -> usize
-    requires { length line.now ≤ program_bytes }
-    ensures { (result ≡ line_byte n line.now) × (result ≤ length line.now) }
+pub(crate) fn line_byte(n: u64, line: &[u8]) -> Option<usize>
+    ensures { (counted result ≡ line_byte n line.now) × (counted result ≤ length line.now) }
 {
     match classify(line) {
-        Line::Nothing => 0,
-        Line::Fetch(start) => spec_from(n, line, start),
-        Line::Push(start) => spec_from(n, line, start),
-        Line::Name(_) => 0,
-        Line::Shown(start) => unshown_from(line, start),
-        Line::Marked => 0,
+        Line::Fetch(start) | Line::Push(start) => Some(start + spec_byte(n, &line[start..])?),
+        Line::Shown(start) => Some(start + unshown_byte(&line[start..])?),
         Line::Unknown => byte_after(known(line), line),
+        Line::Nothing => None,
+        Line::Name(_) => None,
+        Line::Marked => None,
     }
 }

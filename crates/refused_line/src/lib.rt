@@ -6,6 +6,7 @@ ghost use Rattle.meaning.specs.Limits.{program_bytes};
 ghost use Rattle.meaning.specs.Bytes.{bytes};
 ghost use Rattle.buffer.specs.Splice.{splice};
 ghost use Rattle.refusal_words.specs.Words.{reason_words};
+ghost use Rattle.refused_line.specs.Byte.{counted};
 ghost use Rattle.refused_line.specs.Message.{numeral, byte_words, byte_told, line_told, refused_line, message_most};
 
 mod byte;
@@ -42,7 +43,11 @@ fn put_byte_words(out: &mut [u8], at: usize, b: u8) -> usize
         b'\r' => put(out, at, b"a carriage return"),
         b' ' => put(out, at, b"a space"),
         33..=126 => put(out, at, &[b'`', b, b'`']),
-        _ => put(out, at, &[b'0', b'x', capital_digit(b / 16), capital_digit(b % 16)]),
+        _ => put(
+            out,
+            at,
+            &[b'0', b'x', capital_digit(b / 16), capital_digit(b % 16)],
+        ),
     }
 }
 
@@ -56,24 +61,26 @@ fn put_is(out: &mut [u8], at: usize, b: u8) -> usize
 }
 
 // Writes which byte of a line it is about, if about one, and answers the place after it.
-fn put_told(out: &mut [u8], at: usize, line: &[u8], n: usize) -> usize
-    requires { (at + length (byte_told line.now n) ≤ length out.old) × (n ≤ length line.now) }
-    ensures { (out.new ≡ splice out.old at (byte_told line.now n)) × (result ≡ at + length (byte_told line.now n)) }
+fn put_told(out: &mut [u8], at: usize, line: &[u8], byte: Option<usize>) -> usize
+    requires { (at + length (byte_told line.now (counted byte)) ≤ length out.old) × (counted byte ≤ length line.now) }
+    ensures { (out.new ≡ splice out.old at (byte_told line.now (counted byte))) × (result ≡ at + length (byte_told line.now (counted byte))) }
 {
-    if n == 0 {
-        return at;
+    match byte {
+        None => at,
+        Some(k) => {
+            let i = put(out, at, b": byte ");
+            let j = put_number(out, i, k + 1);
+            put_is(out, j, line[k])
+        }
     }
-    let i = put(out, at, b": byte ");
-    let j = put_number(out, i, n);
-    put_is(out, j, line[n - 1])
 }
 
 // Writes the same with a line feed, and answers the place after it.
-fn put_end(out: &mut [u8], at: usize, line: &[u8], n: usize) -> usize
-    requires { (at + length (byte_told line.now n ++ (10 ∷ [])) ≤ length out.old) × (n ≤ length line.now) }
-    ensures { (out.new ≡ splice out.old at (byte_told line.now n ++ (10 ∷ []))) × (result ≡ at + length (byte_told line.now n ++ (10 ∷ []))) }
+fn put_end(out: &mut [u8], at: usize, line: &[u8], byte: Option<usize>) -> usize
+    requires { (at + length (byte_told line.now (counted byte) ++ (10 ∷ [])) ≤ length out.old) × (counted byte ≤ length line.now) }
+    ensures { (out.new ≡ splice out.old at (byte_told line.now (counted byte) ++ (10 ∷ []))) × (result ≡ at + length (byte_told line.now (counted byte) ++ (10 ∷ []))) }
 {
-    let i = put_told(out, at, line, n);
+    let i = put_told(out, at, line, byte);
     put_byte(out, i, b'\n')
 }
 
@@ -100,8 +107,8 @@ pub fn put_refused(out: &mut [u8], k: usize, n: u64, line: &[u8]) -> usize
     requires { (message_most ≤ length out.old) × (length line.now ≤ program_bytes) }
     ensures { (out.new ≡ splice out.old 0 (refused_line k n line.now)) × (result ≡ length (refused_line k n line.now)) × (result ≤ message_most) }
 {
-    let number = line_byte(n, line);
+    let byte = line_byte(n, line);
     let i = put_line(out, 0, k);
     let j = put_reason(out, i, n);
-    put_end(out, j, line, number)
+    put_end(out, j, line, byte)
 }

@@ -1,6 +1,5 @@
 -- The byte is written right after the verb.
-use Rattle.buffer.proofs.Pairs.{pair-first, pair-second, pair_put, pair_end}
-use borrow.Author.Rules.{rules}
+use Rattle.buffer.proofs.Pairs.{pair_put, pair_end}
 use Rattle.refused_line.proofs.put_is.Goals as goal
 
 pub returns : goal.returns

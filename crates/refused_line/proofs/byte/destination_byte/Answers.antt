@@ -1,9 +1,9 @@
--- The destination stands at the end of its spec. Assumes nothing.
-use Rattle.refused_line.proofs.Sides.{destination-within, destination-small, destination-found, counted-within}
+-- The first refused byte of the side is counted from where the side stands.
+use Rattle.refused_line.proofs.Sides.{destination-none, destination-some}
 use Rattle.refused_line.proofs.byte.destination_byte.Goals as goal
 
-pub past-requires : goal.past-requires
-past-requires c = search destination-small
+pub returns-in_err-i : goal.returns-in_err-i
+returns-in_err-i c = destination-none _ _ _ _ c.split-s.ensures _ c.first_refused.ensures c.in_err-i.was _ c.from_residual.ensures
 
 pub returns : goal.returns
-returns c = (search destination-found, search (counted-within, destination-within))
+returns c = destination-some _ _ _ _ c.split-s.ensures _ c.first_refused.ensures _ c.in_ok-i.was

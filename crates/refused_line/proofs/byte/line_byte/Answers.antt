@@ -1,35 +1,40 @@
--- Each kind of line has its own. Assumes nothing.
-use Rattle.refused_line.proofs.Lines.{byte-nothing, byte-marked, byte-unknown, byte-fetch, byte-push, byte-shown, byte-name}
-use Rattle.text_lists.proofs.LineKinds.{fetch-within, push-within, shown-within}
-use borrow.Author.Rules.{rules}
+-- Each kind of line has its own byte.
+use Rattle.refused_line.proofs.Lines.{byte-nothing, byte-marked, byte-name, byte-unknown, byte-spec, byte-shown, from-none, from-some, spec-held, unshown-held, spec-at}
+use mathlib.Core.Path.{◌∙◌}
 use Rattle.refused_line.proofs.byte.line_byte.Goals as goal
 
-pub spec_from-requires : goal.spec_from-requires
-spec_from-requires c = (search fetch-within, search rules)
+pub returns-in_err-spec_byte-in-Fetch : goal.returns-in_err-spec_byte-in-Fetch
+returns-in_err-spec_byte-in-Fetch c =
+    from-none _ c.in-Fetch.start (spec-at c.args.n _ _ c.classify.ensures _ c.in-Fetch.is) _ c.spec_byte.ensures.1 _
+    (spec-held _ _ _ _ c.spec_byte.ensures.0 ∙ byte-spec _ _ _ c.classify.ensures _ c.in-Fetch.is)
+    c.in_err-spec_byte-in-Fetch.was _ c.from_residual-in_err-spec_byte-in-Fetch.ensures
 
-pub spec_from-requires-in-Push : goal.spec_from-requires-in-Push
-spec_from-requires-in-Push c = (search push-within, search rules)
+pub returns-in_ok-spec_byte-in-Fetch : goal.returns-in_ok-spec_byte-in-Fetch
+returns-in_ok-spec_byte-in-Fetch c =
+    from-some _ c.in-Fetch.start (spec-at c.args.n _ _ c.classify.ensures _ c.in-Fetch.is) _ c.spec_byte.ensures.1 _
+    (spec-held _ _ _ _ c.spec_byte.ensures.0 ∙ byte-spec _ _ _ c.classify.ensures _ c.in-Fetch.is)
+    _ c.in_ok-spec_byte-in-Fetch.was
 
-pub unshown_from-requires : goal.unshown_from-requires
-unshown_from-requires c = (search shown-within, search rules)
+pub returns-in_err-unshown_byte-in-Shown : goal.returns-in_err-unshown_byte-in-Shown
+returns-in_err-unshown_byte-in-Shown c =
+    from-none _ c.in-Shown.start c.in-Shown.ensures.within _ c.unshown_byte.ensures.1 _
+    (unshown-held _ _ _ c.unshown_byte.ensures.0 ∙ byte-shown _ _ _ c.classify.ensures _ c.in-Shown.is)
+    c.in_err-unshown_byte-in-Shown.was _ c.from_residual.ensures
 
-pub returns-in-Nothing : goal.returns-in-Nothing
-returns-in-Nothing c = (search byte-nothing, search rules)
-
-pub returns-in-Fetch : goal.returns-in-Fetch
-returns-in-Fetch c = (search byte-fetch, search rules)
-
-pub returns-in-Push : goal.returns-in-Push
-returns-in-Push c = (search byte-push, search rules)
-
-pub returns-in-Name : goal.returns-in-Name
-returns-in-Name c = (search byte-name, search rules)
-
-pub returns-in-Shown : goal.returns-in-Shown
-returns-in-Shown c = (search byte-shown, search rules)
-
-pub returns-in-Marked : goal.returns-in-Marked
-returns-in-Marked c = (search byte-marked, search rules)
+pub returns-in_ok-unshown_byte-in-Shown : goal.returns-in_ok-unshown_byte-in-Shown
+returns-in_ok-unshown_byte-in-Shown c =
+    from-some _ c.in-Shown.start c.in-Shown.ensures.within _ c.unshown_byte.ensures.1 _
+    (unshown-held _ _ _ c.unshown_byte.ensures.0 ∙ byte-shown _ _ _ c.classify.ensures _ c.in-Shown.is)
+    _ c.in_ok-unshown_byte-in-Shown.was
 
 pub returns-in-Unknown : goal.returns-in-Unknown
-returns-in-Unknown c = (search byte-unknown, search rules)
+returns-in-Unknown c = (byte-unknown _ _ _ c.classify.ensures c.in-Unknown.is _ _ c.known.ensures c.byte_after.ensures.0, c.byte_after.ensures.1)
+
+pub returns-in-Nothing : goal.returns-in-Nothing
+returns-in-Nothing c = byte-nothing _ _ _ c.classify.ensures c.in-Nothing.is
+
+pub returns-in-Name : goal.returns-in-Name
+returns-in-Name c = byte-name _ _ _ c.classify.ensures _ c.in-Name.is
+
+pub returns-in-Marked : goal.returns-in-Marked
+returns-in-Marked c = byte-marked _ _ _ c.classify.ensures c.in-Marked.is

@@ -1,9 +1,9 @@
--- The source follows the sign. Assumes nothing.
-use Rattle.refused_line.proofs.Sides.{source-within, source-small, source-found, counted-within}
+-- The first refused byte of the side is counted from where the side stands.
+use Rattle.refused_line.proofs.Sides.{source-none, source-some}
 use Rattle.refused_line.proofs.byte.source_byte.Goals as goal
 
-pub past-requires : goal.past-requires
-past-requires c = search source-small
+pub returns-in_err-i : goal.returns-in_err-i
+returns-in_err-i c = source-none _ _ _ _ c.split-s.ensures _ c.first_refused.ensures c.in_err-i.was _ c.from_residual.ensures
 
 pub returns : goal.returns
-returns c = (search source-found, search (counted-within, source-within))
+returns c = source-some _ _ _ _ c.split-s.ensures _ c.first_refused.ensures _ c.in_ok-i.was
