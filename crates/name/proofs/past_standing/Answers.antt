@@ -2,9 +2,6 @@ use borrow.Author.Rules.{rules}
 use Rattle.name.proofs.Standing.{standing_here, standing-more, standing-end}
 use Rattle.name.proofs.past_standing.Goals as goal
 
-pub loop-i-init : goal.loop-i-init
-loop-i-init c = (search rules, search rules)
-
 pub returns-then-not-stands : goal.returns-then-not-stands
 returns-then-not-stands c = (search standing_here, search rules)
 
