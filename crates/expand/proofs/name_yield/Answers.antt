@@ -11,11 +11,11 @@ slice_bounds-has_byte-start c = search refs-length
 pub returns-then-has_byte : goal.returns-then-has_byte
 returns-then-has_byte c = search yield-deeper
 
-pub returns-then-begins : goal.returns-then-begins
-returns-then-begins c = search yield-itself
+pub returns-else-has_byte : goal.returns-else-has_byte
+returns-else-has_byte c = search yield-itself
 
 pub returns-then-object_id : goal.returns-then-object_id
 returns-then-object_id c = search yield-object
 
-pub returns : goal.returns
-returns c = search yield-six
+pub returns-else-object_id : goal.returns-else-object_id
+returns-else-object_id c = search yield-six
