@@ -2,7 +2,7 @@
 use mathlib.Core.Path.{◌≡◌, refl, sym, ap, ◌∙◌}
 use mathlib.Core.Bool.{Bool, true, false, cond}
 use mathlib.Core.List.{List, [], ◌∷◌, ◌++◌}
-use Prim.Native.Nat.{ℕ, zero, suc, ◌+◌, ◌-◌, ◌*◌, ◌≤◌, ◌<◌}
+use Prim.Native.Nat.{ℕ, zero, suc, ◌+◌, ◌-◌, ◌≤◌, ◌<◌}
 use native.Mathlib.Numerals.{add-one}
 use native.Mathlib.Omega.{arith}
 use lib.ListN.{length, take, drop, set, length-set, length-drop}
@@ -30,19 +30,6 @@ use Rattle.conflicts.specs.Indexed.{has_destination, Given, Indexed, Stored}
 use Rattle.conflicts.proofs.Walks.{At, at-start, next_row, next-destination, moves-on, end_row, refused-row, taken}
 
 -- a place as it is stored
-pub pushed : (d : List ℕ) (n at r : ℕ) → r ≡ at → set d n r ≡ set d n at
-pushed d n at r e = ap (set d n) e
-
--- a side by its case
-module _ (dst : Side) (w : InList row_list_bytes dst) (d : List ℕ) (n at : ℕ) where
-  pub store-absent : dst ≡ Absent → Stored d n at dst d n
-  store-absent e = rw e (refl, refl)
-
-  pub store-part : (a b : ℕ) → dst ≡ Part a b → (e : List ℕ) (r : ℕ) → e ≡ set d n at → r ≡ n + 1 → Stored d n at dst e r
-  store-part a b e f r h k = rw e (h, k)
-
-  pub store-head : dst ≡ Head → Stored d n at dst d n
-  store-head e = absurd (rw e at w)
 
 module _ (specs : ℕ) (s : Text) (at : ℕ) (row : RowPlace) (next : ℕ) (t : RowTaken specs s at row next) where
   -- the row that was taken is the one that begins there
@@ -224,9 +211,3 @@ module _ (specs : ℕ) (s : Text) (d₀ d : List ℕ) (at n : ℕ) (m : Filling 
 module _ (d₀ d : List ℕ) (n : ℕ) (few : n ≤ length d₀) (same : length d ≡ length d₀) where
   pub filled-count : n ≡ length (take n d)
   filled-count = sym (length-take-le n d (rw same few))
-
-  pub filled-small : length d₀ ≤ row_list_bytes → length (take n d) ≤ row_list_bytes
-  filled-small h = omega (arith, filled-count)
-
-  pub filled-room : (room : ℕ) → length d₀ ≤ 2 * room + 1 → length (take n d) ≤ 2 * room + 1
-  filled-room room h = omega (arith, filled-count)

@@ -304,8 +304,6 @@ module _ (specs : ℕ) (s : Text) (d₀ d : List ℕ) (i : ℕ) (buffer out : Te
         }
 
 -- `put_if_room`: the conflicts of a sorted index, measured and then written
-pub index-again : (specs : ℕ) (s : Text) (d e : List ℕ) → e ≡ d → SortedIndex specs s d → SortedIndex specs s e
-index-again specs s d e q x = rw q x
 
 module _ (rows : List Row) (size : ℕ) (es : size ≡ length (conflicts_bytes rows)) (d : Text) where
   pub none-put : size ≡ 0 → d ≡ put_if_room d (conflicts_bytes rows)

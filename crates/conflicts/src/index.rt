@@ -1,5 +1,5 @@
 // The index of a row list: the places of its rows that have a destination, sorted by it, so that rows of one destination are a run.
-ghost use Rattle.std.specs.Prelude.{◌≡◌, ◌+◌, ◌*◌, ◌≤◌, ◌<◌, length, take, set};
+ghost use Rattle.std.specs.Prelude.{◌≡◌, ◌+◌, ◌*◌, ◌≤◌, ◌<◌, length, take};
 ghost use Rattle.meaning.specs.Limits.{row_list_bytes};
 ghost use Rattle.buffer.specs.Splice.{splice};
 ghost use Rattle.order.specs.Rooms.{HalfRoom};
@@ -15,32 +15,17 @@ use order::sort::sort;
 use parse::types::Side;
 use row_list::{RowStep, next_row};
 
-// A place of a row list as it stands in an index.
-fn narrow(at: usize) -> u32
-    requires { at ≤ row_list_bytes }
-    ensures { result ≡ at }
-{
-    at as u32
-}
-
-// Stores a place after n others, and answers how many there are.
-fn push(index: &mut [u32], n: usize, at: usize) -> usize
-    requires { (n < length index.old) × (at ≤ row_list_bytes) }
-    ensures { (index.new ≡ set index.old n at) × (result ≡ n + 1) }
-{
-    index[n] = narrow(at);
-    n + 1
-}
-
 // Stores the place of a row after n others, if the row has a destination, and answers how many there are.
 fn store(index: &mut [u32], n: usize, at: usize, dst: Side) -> usize
     requires { (n < length index.old) × (at ≤ row_list_bytes) × InList row_list_bytes dst }
     ensures { Stored index.old n at dst index.new result }
 {
     match dst {
-        Side::Absent => n,
-        Side::Part(_, _) => push(index, n, at),
-        Side::Head => n,
+        Side::Part(_, _) => {
+            index[n] = at as u32;
+            n + 1
+        }
+        Side::Absent | Side::Head => n,
     }
 }
 
@@ -55,8 +40,7 @@ fn fill(rows: &[u8], specs: usize, index: &mut [u32]) -> usize
         let at = c.at;
         match next_row(c, rows, specs) {
             RowStep::Row { row, next } => {
-                let dst = row.dst;
-                n = store(index, n, at, dst);
+                n = store(index, n, at, row.dst);
                 c = next;
             }
             RowStep::End => {
@@ -70,6 +54,7 @@ fn fill(rows: &[u8], specs: usize, index: &mut [u32]) -> usize
 }
 
 // How many bytes the conflicts of a sorted index take, run by run. The index is left as it was.
+// As it is: a step of the loop is a run, whose end is read from its start; to cut the index by `chunk_by` reads each key twice.
 fn sorted_size(rows: &[u8], specs: usize, index: &mut [u32], scratch: &mut [u32]) -> usize
     requires { RowsRead specs rows.now × SortedIndex specs rows.now index.old × (length index.old ≤ row_list_bytes) × HalfRoom index.old scratch.old }
     ensures { (result ≡ length (conflicts_bytes (rows_in specs rows.now))) × (index.new ≡ index.old) }
@@ -110,29 +95,10 @@ fn put_if_room(
     ensures { (result ≡ length (conflicts_bytes (rows_in specs rows.now))) × (out.new ≡ put_if_room out.old (conflicts_bytes (rows_in specs rows.now))) }
 {
     let size = sorted_size(rows, specs, index, scratch);
-    if size == 0 {
-        return 0;
+    if 0 < size && size <= out.len() {
+        put_sorted(out, rows, specs, index, scratch);
     }
-    if out.len() < size {
-        return size;
-    }
-    put_sorted(out, rows, specs, index, scratch);
     size
-}
-
-// Sorts the places of a row list, which serve to measure its conflicts and to write them.
-fn put_filled(
-    out: &mut [u8],
-    rows: &[u8],
-    specs: usize,
-    index: &mut [u32],
-    scratch: &mut [u32],
-) -> usize
-    requires { RowsRead specs rows.now × Indexed specs rows.now index.old × (length index.old ≤ row_list_bytes) × HalfRoom index.old scratch.old }
-    ensures { (result ≡ length (conflicts_bytes (rows_in specs rows.now))) × (out.new ≡ put_if_room out.old (conflicts_bytes (rows_in specs rows.now))) }
-{
-    sort::<Destination>(rows, index, scratch);
-    put_if_room(out, rows, specs, index, scratch)
 }
 
 // The conflicts of a row list, whose places an index has room for, at the start of a buffer that has room for them.
@@ -147,5 +113,7 @@ pub(crate) fn put_indexed(
     ensures { (result ≡ length (conflicts_bytes (rows_in specs rows.now))) × (out.new ≡ put_if_room out.old (conflicts_bytes (rows_in specs rows.now))) }
 {
     let n = fill(rows, specs, index);
-    put_filled(out, rows, specs, &mut index[..n], scratch)
+    let index = &mut index[..n];
+    sort::<Destination>(rows, index, scratch);
+    put_if_room(out, rows, specs, index, scratch)
 }

@@ -8,7 +8,7 @@ ghost use Rattle.meaning.specs.Limits.{row_list_bytes, largest_number};
 ghost use Rattle.meaning.specs.Rows.{row_list_of};
 ghost use Rattle.meaning.specs.Validation.{is_full, is_kept, fix_of, fix_bytes};
 ghost use Rattle.buffer.specs.Splice.{splice};
-ghost use Rattle.parse.specs.Places.{part_at, side_meant, Within};
+ghost use Rattle.parse.specs.Places.{side_meant, Within};
 ghost use Rattle.row_fields.specs.Fields.{row_meant};
 ghost use Rattle.row_list.specs.Rows.{RowTaken};
 ghost use Rattle.row_list.specs.Lists.{rows_in, RowsRead};
@@ -30,19 +30,7 @@ pub struct Lengths {
 pub fn is_full(t: &[u8]) -> bool
     ensures { result ≡ is_full t.now }
 {
-    if compare::begins(b"refs/", t) {
-        return true;
-    }
-    compare::same(t, b"HEAD")
-}
-
-// The destination of n bytes that begin at `at` is full.
-fn is_full_at(rows: &[u8], at: usize, n: usize) -> bool
-    requires { at + n ≤ length rows.now }
-    ensures { result ≡ is_full (part_at rows.now at n) }
-{
-    let end = at + n;
-    is_full(&rows[at..end])
+    compare::begins(b"refs/", t) || compare::same(t, b"HEAD")
 }
 
 // A row with this destination is kept: it is full, or there is none.
@@ -51,9 +39,8 @@ fn is_kept(rows: &[u8], dst: Side) -> bool
     ensures { result ≡ if_given is_full (side_meant rows.now dst) }
 {
     match dst {
-        Side::Absent => true,
-        Side::Part(at, n) => is_full_at(rows, at, n),
-        Side::Head => true,
+        Side::Part(at, n) => is_full(&rows[at..at + n]),
+        Side::Absent | Side::Head => true,
     }
 }
 
@@ -62,22 +49,19 @@ fn row_size(rows: &[u8], specs: usize, at: usize, row: RowPlace, end: usize) -> 
     requires { RowTaken specs rows.now at row end }
     ensures { (result ≡ length (kept_bytes (row_meant rows.now row))) × (result ≤ length rows.now) }
 {
-    let dst = row.dst;
-    if !is_kept(rows, dst) {
-        return 0;
-    }
-    end - at
+    if is_kept(rows, row.dst) { end - at } else { 0 }
 }
 
-// How many bytes the fix of a destination takes, which has n bytes that begin at `at`; a full one gives none.
-fn name_fix_size(rows: &[u8], at: usize, n: usize, spec: usize) -> usize
-    requires { (at + n ≤ length rows.now) × (length rows.now ≤ row_list_bytes) × (spec ≤ largest_number) }
-    ensures { (result ≡ length (fix_on spec (part_at rows.now at n))) × (result ≤ length rows.now + fix_numbers_most) }
+// How many bytes the fix of a destination takes; a full one gives none.
+fn name_fix_size(name: &[u8], spec: usize) -> usize
+    requires { (length name.now ≤ row_list_bytes) × (spec ≤ largest_number) }
+    ensures { (result ≡ length (fix_on spec name.now)) × (result ≤ length name.now + fix_numbers_most) }
 {
-    if is_full_at(rows, at, n) {
-        return 0;
+    if is_full(name) {
+        0
+    } else {
+        number::size(name.len()) + name.len() + number::size(spec)
     }
-    number::size(n) + n + number::size(spec)
 }
 
 // How many bytes a row gives to the fixes, by its spec number and its destination.
@@ -86,9 +70,8 @@ fn fix_size(rows: &[u8], spec: usize, dst: Side) -> usize
     ensures { (result ≡ length (fix_for spec (side_meant rows.now dst))) × (result ≤ length rows.now + fix_numbers_most) }
 {
     match dst {
-        Side::Absent => 0,
-        Side::Part(at, n) => name_fix_size(rows, at, n, spec),
-        Side::Head => 0,
+        Side::Part(at, n) => name_fix_size(&rows[at..at + n], spec),
+        Side::Absent | Side::Head => 0,
     }
 }
 
@@ -104,11 +87,8 @@ pub fn measure(rows: &[u8], specs: usize) -> Lengths
         let at = c.at;
         match next_row(c, rows, specs) {
             RowStep::Row { row, next } => {
-                let end = next.at;
-                let spec = row.spec;
-                let dst = row.dst;
-                kept += row_size(rows, specs, at, row, end);
-                fixed += fix_size(rows, spec, dst);
+                kept += row_size(rows, specs, at, row, next.at);
+                fixed += fix_size(rows, row.spec, row.dst);
                 c = next;
             }
             RowStep::End => {
@@ -121,17 +101,16 @@ pub fn measure(rows: &[u8], specs: usize) -> Lengths
     }
 }
 
-// Writes the fix of a destination that has n bytes which begin at `at`, and answers the place after it; a full one gives none.
-fn put_name_fix(out: &mut [u8], to: usize, rows: &[u8], at: usize, n: usize, spec: usize) -> usize
-    requires { (at + n ≤ length rows.now) × (length rows.now ≤ row_list_bytes) × (spec ≤ largest_number) × (to + length (fix_on spec (part_at rows.now at n)) ≤ length out.old) }
-    ensures { (out.new ≡ splice out.old to (fix_on spec (part_at rows.now at n))) × (result ≡ to + length (fix_on spec (part_at rows.now at n))) }
+// Writes the fix of a destination, and answers the place after it; a full one gives none.
+fn put_name_fix(out: &mut [u8], to: usize, name: &[u8], spec: usize) -> usize
+    requires { (length name.now ≤ row_list_bytes) × (spec ≤ largest_number) × (to + length (fix_on spec name.now) ≤ length out.old) }
+    ensures { (out.new ≡ splice out.old to (fix_on spec name.now)) × (result ≡ to + length (fix_on spec name.now)) }
 {
-    if is_full_at(rows, at, n) {
+    if is_full(name) {
         return to;
     }
-    let end = at + n;
-    let i = number::put(out, to, n);
-    let j = buffer::put(out, i, &rows[at..end]);
+    let i = number::put(out, to, name.len());
+    let j = buffer::put(out, i, name);
     number::put(out, j, spec)
 }
 
@@ -141,9 +120,8 @@ fn put_fix(out: &mut [u8], to: usize, rows: &[u8], spec: usize, dst: Side) -> us
     ensures { (out.new ≡ splice out.old to (fix_for spec (side_meant rows.now dst))) × (result ≡ to + length (fix_for spec (side_meant rows.now dst))) }
 {
     match dst {
-        Side::Absent => to,
-        Side::Part(at, n) => put_name_fix(out, to, rows, at, n, spec),
-        Side::Head => to,
+        Side::Part(at, n) => put_name_fix(out, to, &rows[at..at + n], spec),
+        Side::Absent | Side::Head => to,
     }
 }
 
@@ -161,19 +139,16 @@ fn put_either(
     requires { RowTaken specs rows.now at row end × (length rows.now ≤ row_list_bytes) × (to.kept + length (kept_bytes (row_meant rows.now row)) ≤ length out.old) × (to.fixed + length (row_fix (row_meant rows.now row)) ≤ length fixes.old) }
     ensures { (out.new ≡ splice out.old to.kept (kept_bytes (row_meant rows.now row))) × (fixes.new ≡ splice fixes.old to.fixed (row_fix (row_meant rows.now row))) × (result.kept ≡ to.kept + length (kept_bytes (row_meant rows.now row))) × (result.fixed ≡ to.fixed + length (row_fix (row_meant rows.now row))) }
 {
-    let dst = row.dst;
-    if !is_kept(rows, dst) {
-        let spec = row.spec;
-        let fixed = put_fix(fixes, to.fixed, rows, spec, dst);
-        return Lengths {
+    if is_kept(rows, row.dst) {
+        Lengths {
+            kept: buffer::put(out, to.kept, &rows[at..end]),
+            fixed: to.fixed,
+        }
+    } else {
+        Lengths {
             kept: to.kept,
-            fixed,
-        };
-    }
-    let kept = buffer::put(out, to.kept, &rows[at..end]);
-    Lengths {
-        kept,
-        fixed: to.fixed,
+            fixed: put_fix(fixes, to.fixed, rows, row.spec, row.dst),
+        }
     }
 }
 
@@ -188,8 +163,7 @@ pub fn put_rows(out: &mut [u8], fixes: &mut [u8], rows: &[u8], specs: usize) -> 
         let at = c.at;
         match next_row(c, rows, specs) {
             RowStep::Row { row, next } => {
-                let end = next.at;
-                to = put_either(out, fixes, to, rows, specs, at, row, end);
+                to = put_either(out, fixes, to, rows, specs, at, row, next.at);
                 c = next;
             }
             RowStep::End => {
