@@ -1,7 +1,7 @@
 // Numbers in groups of seven bits: lowest first, the top bit set while more follow, in the shortest form.
 #![tactic(auto)]
 
-ghost use Rattle.std.specs.Prelude.{◌≡◌, ◌+◌, ◌<◌, ◌≤◌, ◌/◌, ◌%◌, length};
+ghost use Rattle.std.specs.Prelude.{◌≡◌, ◌+◌, ◌<◌, ◌≤◌, length};
 ghost use Rattle.meaning.specs.Number.{number_bytes};
 ghost use Rattle.buffer.specs.Splice.{splice};
 ghost use Rattle.meaning.specs.Limits.{largest_number};
@@ -72,34 +72,12 @@ pub fn size(n: usize) -> usize
     ensures { result ≡ length (number_bytes n) }
 {
     if n < 128 {
-        return 1;
+        1
+    } else if n < TWO_GROUPS {
+        2
+    } else {
+        NUMBER_GROUPS
     }
-    if n < TWO_GROUPS {
-        return 2;
-    }
-    NUMBER_GROUPS
-}
-
-// The lowest group of a number that has more: the remainder, with the top bit set.
-fn low(n: usize) -> u8
-    ensures { result ≡ 128 + n % 128 }
-{
-    (128 + n % 128) as u8
-}
-
-// The groups above the lowest: the quotient.
-fn high(n: usize) -> usize
-    ensures { result ≡ n / 128 }
-{
-    n / 128
-}
-
-// The highest group.
-fn last(n: usize) -> u8
-    requires { n < 128 }
-    ensures { result ≡ n }
-{
-    n as u8
 }
 
 // `n` written from `at` on; the place after it.
@@ -109,11 +87,12 @@ pub fn put(out: &mut [u8], at: usize, n: usize) -> usize
 {
     let mut i = at;
     let mut rest = n;
+    // As it is: what is left of the number ends the loop, and a `for` over its bytes would have to measure them first.
     while 128 <= rest {
-        out[i] = low(rest);
-        rest = high(rest);
+        out[i] = (128 + rest % 128) as u8;
+        rest /= 128;
         i += 1;
     }
-    out[i] = last(rest);
+    out[i] = rest as u8;
     i + 1
 }
