@@ -11,8 +11,7 @@ use parse::types::Side;
 fn text_needle(negative: bool, t: &[u8]) -> Needle
     ensures { NeedleOf negative t.now result }
 {
-    let star = text::find(b'*', t);
-    if star < t.len() {
+    if let Some(star) = text::find(b'*', t) {
         return Needle::Glob(star);
     }
     if negative || compare::begins(b"refs/", t) {
@@ -56,11 +55,9 @@ fn lead_of(t: &[u8]) -> Lead
 fn text_target(t: &[u8]) -> Target
     ensures { TargetOf t.now result }
 {
-    let star = text::find(b'*', t);
-    if star < t.len() {
-        Target::Pattern(star)
-    } else {
-        Target::Literal(lead_of(t))
+    match text::find(b'*', t) {
+        Some(star) => Target::Pattern(star),
+        None => Target::Literal(lead_of(t)),
     }
 }
 

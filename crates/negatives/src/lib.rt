@@ -35,12 +35,10 @@ fn text_negative(specs: &[u8], at: usize, len: usize) -> Negative
     requires { at + len ≤ length specs.now }
     ensures { result ≡ text_negative specs.now at len }
 {
-    let end = at + len;
-    let star = text::find(b'*', &specs[at..end]);
-    if star == len {
-        return Negative::Literal { at, len };
+    match text::find(b'*', &specs[at..at + len]) {
+        Some(star) => Negative::Glob { at, len, star },
+        None => Negative::Literal { at, len },
     }
-    Negative::Glob { at, len, star }
 }
 
 // What a side looks for.

@@ -106,11 +106,10 @@ pub(crate) fn split(op: u64, spec: &[u8]) -> Sides
 {
     let m = mode_of(spec);
     let at = sign_length(m);
-    let past = text::last::past_last(b':', &spec[at..]);
-    if past == 0 {
+    let Some(past) = text::last::past_last(b':', &spec[at..]) else {
         let spec = one_side(op, m, spec, at);
         return Sides { spec, colon: false };
-    }
+    };
     let spec = two_sides(op, m, spec, at, past);
     Sides { spec, colon: true }
 }

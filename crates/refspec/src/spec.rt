@@ -114,10 +114,9 @@ fn prefix_length(t: &[u8]) -> usize
     if !compare::begins(b"refs/", t) {
         return 0;
     }
-    let star = text::find(b'*', t);
-    if star == t.len() {
-        return star;
-    }
+    let Some(star) = text::find(b'*', t) else {
+        return t.len();
+    };
     if compare::begins(b"refs/*", t) {
         return 0;
     }

@@ -62,14 +62,13 @@ fn split(t: &[u8]) -> Sides
     ensures { SidesAt t.now result.start result.end result.rest }
 {
     let start = sign_size(t);
-    let n = past_last(b':', &t[start..]);
-    if n == 0 {
+    let Some(n) = past_last(b':', &t[start..]) else {
         return Sides {
             start,
             end: t.len(),
             rest: t.len(),
         };
-    }
+    };
     Sides {
         start,
         end: start + n - 1,

@@ -28,11 +28,11 @@ pub fn next_line(s: &[u8], at: usize) -> Extent
     requires { at < length s.now }
     ensures { LineAt s.now at result.end result.next }
 {
-    let feed = text::find_from(b'\n', s, at);
+    let Some(feed) = text::find_from(b'\n', s, at) else {
+        let end = s.len();
+        return Extent { end, next: end + 1 };
+    };
     let next = feed + 1;
-    if feed == s.len() {
-        return Extent { end: feed, next };
-    }
     if feed == at {
         return Extent { end: feed, next };
     }

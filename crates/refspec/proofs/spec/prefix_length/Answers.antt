@@ -1,4 +1,7 @@
 -- Each branch is one case of a name's prefix. Assumes nothing.
+use mathlib.Core.Path.{◌≡◌, sym}
+use native.Mathlib.Omega.{arith}
+use lib.ListN.{length}
 use Rattle.refspec.proofs.Fronts.{length-head, length-other, length-plain, length-refs-star, length-bracket, length-star}
 use Rattle.refspec.proofs.spec.prefix_length.Goals as goal
 
@@ -8,14 +11,23 @@ returns-then-same c = search length-head
 pub returns-then-not-begins : goal.returns-then-not-begins
 returns-then-not-begins c = search length-other
 
-pub returns-then-star-t : goal.returns-then-star-t
-returns-then-star-t c = search length-plain
+pub returns-in_default : goal.returns-in_default
+returns-in_default c = let h = sym c.in_default.ensures in search length-plain
 
 pub returns-then-begins : goal.returns-then-begins
-returns-then-begins c = search length-refs-star
+returns-then-begins c =
+    let h = c.in-Some.ensures in
+    let n : (c.in-Some.star ≡ length c.args.t.now → ⊥) = λ e. omega arith in
+    search length-refs-star
 
 pub returns-then-has_byte : goal.returns-then-has_byte
-returns-then-has_byte c = search length-bracket
+returns-then-has_byte c =
+    let h = c.in-Some.ensures in
+    let n : (c.in-Some.star ≡ length c.args.t.now → ⊥) = λ e. omega arith in
+    search length-bracket
 
 pub returns : goal.returns
-returns c = search length-star
+returns c =
+    let h = c.in-Some.ensures in
+    let n : (c.in-Some.star ≡ length c.args.t.now → ⊥) = λ e. omega arith in
+    search length-star
