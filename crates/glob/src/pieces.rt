@@ -3,7 +3,8 @@ ghost use Rattle.std.specs.Prelude.{◌≡◌, ◌++◌, suc, ◌+◌, ◌<◌, 
 ghost use Rattle.meaning.specs.Bytes.{same, begins, ends, present};
 ghost use Rattle.meaning.specs.Match.{capture};
 
-// n is the sum of three numbers, which may be more than a number holds.
+// n is the sum of three numbers.
+// As it is: three lengths may come to more than a number holds, so each is taken away and not added, and `checked_add` twice is no plainer.
 fn is_sum(n: usize, a: usize, b: usize, c: usize) -> bool
     ensures { result ≡ eqb n (a + (b + c)) }
 {
@@ -17,6 +18,7 @@ fn is_sum(n: usize, a: usize, b: usize, c: usize) -> bool
 }
 
 // n is at most the sum of three numbers.
+// As it is: as for `is_sum`.
 fn at_most_sum(n: usize, a: usize, b: usize, c: usize) -> bool
     ensures { result ≡ leb n (a + (b + c)) }
 {
