@@ -8,6 +8,7 @@ ghost use Rattle.collide.specs.Answers.{refused_with, never, short_with, written
 
 // A refusal's number or 0, which of the two specs is refused, 1 where they collide, and the bytes written or, beside 17, a length for the
 // buffer. A field without a meaning is 0.
+// As it is: C reads this record.
 #[repr(C)]
 #[derive(Clone, Copy)]
 pub struct Collision {

@@ -65,19 +65,13 @@ fn filled_removed(specs: &[u8], name: &[u8], f: Filled, negatives: &[u16], count
     requires { FilledWithin (length specs.now) (length name.now) f × ShortTexts specs.now name.now × Askable specs.now negatives.now count }
     ensures { result ≡ excluded_by specs.now negatives.now count (filled_text specs.now name.now f) }
 {
-    let start = f.start;
-    let start_end = start + f.start_len;
-    let from = f.from;
-    let capture_end = from + f.len;
-    let end = f.end;
-    let end_end = end + f.end_len;
     excluded_pieces(
         specs,
         negatives,
         count,
-        &specs[start..start_end],
-        &name[from..capture_end],
-        &specs[end..end_end],
+        &specs[f.start..f.start + f.start_len],
+        &name[f.from..f.from + f.len],
+        &specs[f.end..f.end + f.end_len],
     )
 }
 
