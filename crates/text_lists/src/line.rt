@@ -1,7 +1,8 @@
 // The lines of a text as a person writes it: where each ends, and what it holds.
-ghost use Rattle.std.specs.Prelude.{◌≡◌, ◌<◌, length};
-ghost use Rattle.meaning.specs.Bytes.{every};
-ghost use Rattle.text_lists.specs.Line.{LineAt, blank_byte, TellsLine};
+ghost use Rattle.std.specs.Prelude.{◌≡◌, ◌+◌, ◌^◌, ◌<◌, length};
+ghost use Rattle.std.specs.Iterator.{YieldsFirstBy, item_count};
+ghost use Rattle.meaning.specs.Bytes.{every, numbered_from};
+ghost use Rattle.text_lists.specs.Line.{lines_of, lines_left, LineAt, blank_byte, TellsLine};
 
 // What a line holds: a spec or a name, which is the rest of the line from a place on, or nothing; a byte order mark stands before anything
 // else.
@@ -42,6 +43,50 @@ pub fn next_line(s: &[u8], at: usize) -> Extent
     Extent {
         end: feed - 1,
         next,
+    }
+}
+
+// The lines of a text that are left, each with its number, counting from 1.
+#[derive(Clone, Copy)]
+pub struct Lines<'a> {
+    rest: &'a [u8],
+    passed: usize,
+    ghost fits: { passed + length rest.now < 2 ^ 64 },
+}
+
+impl<'a> Lines<'a> {
+    // All lines of a text.
+    pub fn of(text: &'a [u8]) -> Lines<'a>
+        ensures { lines_left result.passed result.rest.now ≡ numbered_from 1 (lines_of text.now) }
+    {
+        let _ = text.len();
+        Lines {
+            rest: text,
+            passed: 0,
+        }
+    }
+}
+
+impl<'a> Iterator for Lines<'a> {
+    type Item = (usize, &'a [u8]);
+
+    ghost next_gives = { YieldsFirstBy (λ l. (l.0, l.1.now)) (λ s. lines_left s.passed s.rest.now) };
+
+    ghost remaining = { item_count (λ s. lines_left s.passed s.rest.now) };
+
+    fn next(&mut self) -> Option<(usize, &'a [u8])> {
+        if self.rest.is_empty() {
+            return None;
+        }
+        let Extent { end, next } = next_line(self.rest, 0);
+        let number = self.passed + 1;
+        let line = &self.rest[..end];
+        let left = self.rest.len().min(next);
+        *self = Lines {
+            rest: &self.rest[left..],
+            passed: number,
+        };
+        Some((number, line))
     }
 }
 
