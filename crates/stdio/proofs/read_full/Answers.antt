@@ -4,7 +4,7 @@ use Rattle.std.specs.Io.KnownBytes.{Consumes}
 use Rattle.std.proofs.KnownBytes.{Consumes-trans}
 use borrow.Rule.Slice.PartMut.{put_mid}
 use Rattle.stdio.proofs.Reading.{take_split, slice_range-put_mid}
-use Rattle.stdio.proofs.read_input.Goals as goal
+use Rattle.stdio.proofs.read_full.Goals as goal
 
 pub loop-at-preserved : goal.loop-at-preserved
 loop-at-preserved g c =
