@@ -38,10 +38,7 @@ pub fn put_byte(dst: &mut [u8], at: usize, b: u8) -> usize
 fn lower_byte(b: u8) -> u8
     ensures { result ≡ lower_byte b }
 {
-    match b {
-        b'A'..=b'Z' => b + 32,
-        _ => b,
-    }
+    b.to_ascii_lowercase()
 }
 
 // Writes src in lower case into dst at a place, and answers the place after it.
