@@ -23,7 +23,7 @@ use literal::{literal_in, two_literals};
 use matcher::needle::target_of;
 use matcher::types::{Lead, Target};
 use parse::parse;
-use parse::types::{RefSpec, is_negative};
+use parse::types::RefSpec;
 use pattern::starts_and_ends;
 use refspec::side::text_of;
 
@@ -32,7 +32,7 @@ fn target_in(spec: &[u8], r: RefSpec) -> Target
     requires { SidesWithin (length spec.now) r × (length spec.now ≤ spec_bytes) }
     ensures { Writes (side_text spec.now r.dst) (spec_meant spec.now r) result }
 {
-    if is_negative(r.mode) {
+    if r.mode.is_negative() {
         Target::Absent
     } else {
         target_of(spec, r.dst)

@@ -9,7 +9,6 @@ ghost use Rattle.deliver.specs.Printed.{fetch_rows_in, row_lines, printed_rows, 
 
 use limits::{PROGRAM_BYTES, SPEC_COUNT};
 use list::cursor::Cursor;
-use parse::types::is_present;
 use print::line::{header_size, line_size, put_header, put_line, put_refusal};
 use refspec::side::text_of;
 use row_fields::RowPlace;
@@ -23,7 +22,7 @@ fn row_size(list: &[u8], row: RowPlace) -> usize
     let at = row.src_at;
     let end = at + row.src_len;
     let dst = row.dst;
-    let there = is_present(dst);
+    let there = dst.is_present();
     let destination = text_of(list, b"HEAD", dst);
     line_size(
         row.item,
@@ -43,7 +42,7 @@ fn put_row(out: &mut [u8], i: usize, list: &[u8], row: RowPlace) -> usize
     let at = row.src_at;
     let end = at + row.src_len;
     let dst = row.dst;
-    let there = is_present(dst);
+    let there = dst.is_present();
     let destination = text_of(list, b"HEAD", dst);
     put_line(
         out,

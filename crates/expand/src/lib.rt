@@ -16,7 +16,7 @@ ghost use Rattle.expand.specs.Yields.{yield_without, yield_place, yield_meant, Y
 use buffer::written::{Written, done, refused, short};
 use frames::{candidates_size, put_candidates};
 use parse::parse;
-use parse::types::{RefSpec, Side, is_present};
+use parse::types::{RefSpec, Side};
 use refspec::spec::{prefix_of, remote};
 use spec_text::{put_side, side_size};
 
@@ -54,7 +54,7 @@ pub fn yield_of(spec: &[u8], side: Side) -> Yield
         Side::Absent => Yield::Nothing,
         Side::Part(at, n) => {
             let prefix = prefix_of(spec, side);
-            if is_present(prefix) {
+            if prefix.is_present() {
                 Yield::One(prefix)
             } else {
                 name_yield(&spec[at..at + n], at)

@@ -18,7 +18,7 @@ use matcher::matcher;
 use matcher::types::Matcher;
 use matcher_table::{no_matcher, put_matcher};
 use negatives::put_if_negative;
-use parse::types::{RefSpec, is_negative};
+use parse::types::RefSpec;
 use spec_list::record::{SpecRecord, spec_from};
 use spec_list::table::spec_at;
 
@@ -28,7 +28,7 @@ fn matcher_for(specs: &[u8], r: RefSpec) -> Matcher
     ensures { StandsFor specs.now (spec_meant specs.now r) result × MatcherWithin spec_list_bytes result }
 {
     let mode = r.mode;
-    if is_negative(mode) {
+    if mode.is_negative() {
         return no_matcher();
     }
     matcher(specs, r)

@@ -9,7 +9,7 @@ pub mod needle;
 pub mod types;
 
 use needle::{needle_of, target_of};
-use parse::types::{RefSpec, is_negative};
+use parse::types::RefSpec;
 use types::Matcher;
 
 // The matcher of a spec that was read.
@@ -19,7 +19,7 @@ pub fn matcher(specs: &[u8], r: RefSpec) -> Matcher
 {
     Matcher {
         src: r.src,
-        lhs: needle_of(specs, is_negative(r.mode), r.src),
+        lhs: needle_of(specs, r.mode.is_negative(), r.src),
         dst: r.dst,
         rhs: target_of(specs, r.dst),
     }

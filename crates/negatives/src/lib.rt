@@ -11,7 +11,7 @@ ghost use Rattle.negatives.specs.Negatives.{negative_numbers, in_place_of_star, 
 ghost use Rattle.negatives.specs.Making.{text_negative, side_negative, is_glob, besides, negative_of, negative_four, added_to, PutNegative, Added};
 
 use glob::pieces::{pieces_glob, pieces_same};
-use parse::types::{RefSpec, Side, is_negative, is_present};
+use parse::types::{RefSpec, Side};
 use sides::wide;
 
 // How many numbers a negative has in a table.
@@ -93,7 +93,7 @@ fn negative_of(specs: &[u8], r: RefSpec) -> Negative
     let src = r.src;
     let dst = r.dst;
     let n = side_negative(specs, src);
-    if is_present(dst) {
+    if dst.is_present() {
         return besides(n, side_negative(specs, dst));
     }
     n
@@ -132,7 +132,7 @@ pub fn put_if_negative(specs: &[u8], r: RefSpec, k: usize, out: &mut [u16]) -> u
         × Added specs.now (spec_meant specs.now r) out.old k out.new result }
 {
     let m = r.mode;
-    if !is_negative(m) {
+    if !m.is_negative() {
         return k;
     }
     let n = negative_of(specs, r);

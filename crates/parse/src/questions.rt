@@ -8,7 +8,7 @@ ghost use Rattle.refusal.specs.Numbers.{number_of, number_or0};
 ghost use Rattle.parse.specs.Places.{mode_meant, part_at, side_meant, is_present, Within, SidesWithin, spec_meant};
 ghost use Rattle.parse.specs.Questions.{entry_refusal, shape_refusal, text_refusal, side_refusal, first_asked, side_name_kind, is_pattern, kinds_agree, negative_refusal};
 
-use super::types::{Mode, RefSpec, Side, is_negative, is_present};
+use super::types::{Mode, RefSpec, Side};
 use limits::{HASH_DIGITS, SPEC_BYTES};
 use name::NameKind;
 use refusal::Refusal;
@@ -64,10 +64,10 @@ pub(crate) fn entry_refusal(op: u64, spec: &[u8]) -> Result<(), Refusal>
 fn shape_refusal(op: u64, colon: bool, m: Mode, src: Side, dst: Side) -> Result<(), Refusal>
     ensures { number_or0 result ≡ shape_refusal op colon (mode_meant m) (is_present src) (is_present dst) }
 {
-    if colon && is_negative(m) {
+    if colon && m.is_negative() {
         return Err(Refusal::NegativeWithDestination);
     }
-    if colon && op == 1 && is_present(src) && !is_present(dst) {
+    if colon && op == 1 && src.is_present() && !dst.is_present() {
         return Err(Refusal::PushToEmpty);
     }
     Ok(())
@@ -123,7 +123,7 @@ fn side_refusal(asked: Asked, free: bool, spec: &[u8], side: Side) -> Result<(),
 fn skips_rules(op: u64, dst: Side) -> bool
     ensures { result ≡ (push op and is_present dst) }
 {
-    op == 1 && is_present(dst)
+    op == 1 && dst.is_present()
 }
 
 // What a side is by the name rules; an absent one counts as a name, and `HEAD` is one.
@@ -167,7 +167,7 @@ fn is_pattern(kind: NameKind) -> bool
 fn one_sided(op: u64, dst: Side) -> bool
     ensures { result ≡ (push op and not (is_present dst)) }
 {
-    op == 1 && !is_present(dst)
+    op == 1 && !dst.is_present()
 }
 
 // Question 9 of sides that passed 5 to 8: both are patterns or neither, asked unless negative or a push without destination.
@@ -175,7 +175,7 @@ fn one_sided(op: u64, dst: Side) -> bool
 fn stars_agree(op: u64, m: Mode, dst: Side, source: NameKind, destination: NameKind) -> bool
     ensures { result ≡ kinds_agree op (mode_meant m) (is_present dst) source destination }
 {
-    is_negative(m) || one_sided(op, dst) || is_pattern(source) == is_pattern(destination)
+    m.is_negative() || one_sided(op, dst) || is_pattern(source) == is_pattern(destination)
 }
 
 // Forty or more bytes, all hexadecimal digits.
@@ -204,10 +204,10 @@ fn negative_refusal(spec: &[u8], m: Mode, src: Side) -> Result<(), Refusal>
     requires { Within (length spec.now) src }
     ensures { number_or0 result ≡ negative_refusal (mode_meant m) (side_meant spec.now src) }
 {
-    if !is_negative(m) {
+    if !m.is_negative() {
         return Ok(());
     }
-    if !is_present(src) {
+    if !src.is_present() {
         return Err(Refusal::NegativeEmpty);
     }
     if source_like_hash(spec, src) {

@@ -10,14 +10,14 @@ slice_bounds-past_last-count c = search sign_fits
 pub slice_bounds-past_last-start : goal.slice_bounds-past_last-start
 slice_bounds-past_last-start c = search sign_fits
 
-pub one_side-spec-requires : goal.one_side-spec-requires
-one_side-spec-requires c = search sign_fits
+pub one_side-requires : goal.one_side-requires
+one_side-requires c = search sign_fits
 
 pub returns-in_default : goal.returns-in_default
 returns-in_default c = let h = sym c.in_default.ensures in (search split_one, search no-colon)
 
-pub two_sides-spec-requires : goal.two_sides-spec-requires
-two_sides-spec-requires c = let h = c.in-Some.ensures in (omega arith, search split-fits)
+pub two_sides-requires : goal.two_sides-requires
+two_sides-requires c = let h = c.in-Some.ensures in (omega arith, search split-fits)
 
 pub returns : goal.returns
 returns c =
