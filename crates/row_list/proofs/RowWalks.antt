@@ -11,11 +11,12 @@ use Rattle.meaning.specs.Spec.{accepted, refused}
 use Rattle.meaning.specs.Rows as meaning
 use Rattle.promises.specs.Facts.{records}
 use Rattle.promises.proofs.Steps.{rows-shrink}
-use Rattle.list.specs.declared.cursor.Cursor.{Cursor}
+use Rattle.std.specs.Prelude.{Option, None, Some, Result, Ok, Err}
+use Rattle.refusal.specs.declared.Refusal.{Refusal}
+use Rattle.refusal.specs.Numbers.{number_of}
+use Rattle.list.specs.declared.cursor.Record.{Record}
 use Rattle.row_fields.specs.declared.RowPlace.{RowPlace}
 use Rattle.row_fields.specs.Fields.{row_meant}
-use Rattle.row_list.specs.declared.RowStep.{RowStep}
-use Rattle.row_list.specs.declared.RowStep.TheVariants.{Row, End, Refused}
 use Rattle.row_list.specs.Rows.{RowTaken, RowTurned, RowSays}
 use Rattle.list.proofs.Records.{accepted-records, first_of, records-past, records-no, records-took}
 
@@ -36,24 +37,24 @@ pub record RowNext (specs : ℕ) (s : Text) (row : RowPlace) (at' j : ℕ) (rest
   pub is : rest ≡ row_meant s row ∷ after
   pub left : RowsLeft specs s at' (suc j) after
 
-module _ (specs : ℕ) (s : Text) (at j : ℕ) (rest : List meaning.Row) (l : RowsLeft specs s at j rest) (w : RowStep) (says : RowSays specs s at w) where
-  pub rows_next : (row : RowPlace) (next : Cursor) → w ≡ Row row next → RowNext specs s row next.at j rest
-  rows_next row next e =
-      let t : RowTaken specs s at row next.at = rw e at says in
-      let q = records-took (meaning.row_record specs) (rows-shrink specs) s at j (row_meant s row) (drop next.at s) t.here (t.reads j) in
-      let f = first_of (row_meant s row) (records (meaning.row_record specs) (suc j) (drop next.at s)) rest (sym q ∙ l.reads) in
+module _ (specs : ℕ) (s : Text) (at j : ℕ) (rest : List meaning.Row) (l : RowsLeft specs s at j rest) (w : Result (Option (Record RowPlace)) Refusal) (says : RowSays specs s at w) where
+  pub rows_next : (r : Record RowPlace) → w ≡ Ok (Some r) → RowNext specs s r.value r.next.at j rest
+  rows_next r e =
+      let t : RowTaken specs s at r.value r.next.at = rw e at says in
+      let q = records-took (meaning.row_record specs) (rows-shrink specs) s at j (row_meant s r.value) (drop r.next.at s) t.here (t.reads j) in
+      let f = first_of (row_meant s r.value) (records (meaning.row_record specs) (suc j) (drop r.next.at s)) rest (sym q ∙ l.reads) in
       record { after = f.after; is = f.is; left = record { within = t.within; behind = omega (arith, l.behind, t.on); reads = f.left } }
 
   -- at the end none is left
-  pub rows_end : w ≡ End → rest ≡ []
+  pub rows_end : w ≡ Ok None → rest ≡ []
   rows_end e =
       let h : length s ≤ at = rw e at says in
       let q : accepted [] ≡ accepted rest = sym (records-past (meaning.row_record specs) (rows-shrink specs) s at j h) ∙ l.reads in
       cc
 
   -- a list that was read refuses no more
-  pub rows-refused : {A : Type 0} (n : ℕ) → w ≡ Refused n → A
-  rows-refused n e =
-      let t : RowTurned specs s at n = rw e at says in
-      let q : refused n (some j) ≡ accepted rest = sym (records-no (meaning.row_record specs) (rows-shrink specs) s at j n t.here (t.reads j)) ∙ l.reads in
+  pub rows-refused : {A : Type 0} (x : Refusal) → w ≡ Err x → A
+  rows-refused x e =
+      let t : RowTurned specs s at (number_of x) = rw e at says in
+      let q : refused (number_of x) (some j) ≡ accepted rest = sym (records-no (meaning.row_record specs) (rows-shrink specs) s at j (number_of x) t.here (t.reads j)) ∙ l.reads in
       absurd (let z : ◌≡◌ {A = ℕ} 0 1 = cc in omega arith)
