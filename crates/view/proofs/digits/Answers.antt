@@ -2,8 +2,8 @@
 use Rattle.view.proofs.Objects.{digits-there, digits-none}
 use Rattle.view.proofs.digits.Goals as goal
 
-pub returns-then-spells_object : goal.returns-then-spells_object
-returns-then-spells_object c = search digits-there
+pub returns-then-not-object_id : goal.returns-then-not-object_id
+returns-then-not-object_id c = search digits-none
 
 pub returns : goal.returns
-returns c = search digits-none
+returns c = search digits-there
