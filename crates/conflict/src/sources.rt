@@ -33,7 +33,7 @@ fn source_size(rows: &[u8], p: usize) -> usize
     ensures { (result ≡ length (source_at rows.now p)) × (result ≤ conflict_source_most) }
 {
     let row = fields(rows, p);
-    number::size(row.spec) + number::size(row.kind) + number::size(row.src_len) + row.src_len
+    number::size(row.spec) + number::size(row.kind) + number::size(row.src.len) + row.src.len
 }
 
 // Writes the source of the row at a place, and answers the place after it.
@@ -44,7 +44,7 @@ fn put_source(out: &mut [u8], to: usize, rows: &[u8], p: usize) -> usize
     let row = fields(rows, p);
     let i = number::put(out, to, row.spec);
     let j = number::put(out, i, row.kind);
-    put_text(out, j, rows, row.src_at, row.src_len)
+    put_text(out, j, rows, row.src.at, row.src.len)
 }
 
 // How many bytes the sources of the rows at places take.

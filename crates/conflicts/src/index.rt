@@ -13,7 +13,7 @@ use list::cursor::Cursor;
 use order::run::run_end;
 use order::sort::sort;
 use parse::types::Side;
-use row_list::{RowStep, next_row};
+use row_list::row_at;
 
 // Stores the place of a row after n others, if the row has a destination, and answers how many there are.
 fn store(index: &mut [u32], n: usize, at: usize, dst: Side) -> usize
@@ -36,21 +36,11 @@ fn fill(rows: &[u8], specs: usize, index: &mut [u32]) -> usize
 {
     let mut n = 0;
     let mut c = Cursor::new();
-    loop {
-        let at = c.at;
-        match next_row(c, rows, specs) {
-            RowStep::Row { row, next } => {
-                n = store(index, n, at, row.dst);
-                c = next;
-            }
-            RowStep::End => {
-                return n;
-            }
-            RowStep::Refused(_) => {
-                return n;
-            }
-        }
+    while let Some(r) = row_at(c, rows, specs) {
+        n = store(index, n, c.at, r.value.dst);
+        c = r.next;
     }
+    n
 }
 
 // How many bytes the conflicts of a sorted index take, run by run. The index is left as it was.

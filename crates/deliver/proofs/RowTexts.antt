@@ -32,7 +32,7 @@ side-short s Head h w = omega arith
 
 -- the source of a row, as a slice
 abbrev pub source_in : Text → RowPlace → Text
-source_in s row = take (row.src_at + row.src_len - row.src_at) (drop row.src_at s)
+source_in s row = take (row.src.at + row.src.len - row.src.at) (drop row.src.at s)
 
 module _ (s : Text) (row : RowPlace) where
   -- the texts are short
@@ -46,7 +46,7 @@ module _ (s : Text) (row : RowPlace) where
     -- the line of the plain row is that of the row
     line-is : row_line (row_of row.item row.spec row.kind (source_in s row) there d) ≡ row_line (row_meant s row)
     unfolding row_meant
-    line-is = rw (e, f, side-is s row.dst, part_of s row.src_at row.src_len)
+    line-is = rw (e, f, side-is s row.dst, part_of s row.src.at row.src.len)
 
     pub row-length : (r : ℕ) → r ≡ length (row_line (row_of row.item row.spec row.kind (source_in s row) there d)) → r ≡ length (row_line (row_meant s row))
     row-length r g = g ∙ ap length line-is

@@ -40,5 +40,5 @@ pub record Listed (list : Text) : Type 0 where
 -- the texts of a row stand within such a list
 pub record RowStands (list : Text) (row : RowPlace) : Type 0 where
   pub short : length list ≤ program_bytes
-  pub src-within : row.src_at + row.src_len ≤ length list
+  pub src-within : row.src.at + row.src.len ≤ length list
   pub dst-within : Within (length list) row.dst

@@ -12,15 +12,15 @@ use list::cursor::Cursor;
 use print::line::{header_size, line_size, put_header, put_line, put_refusal};
 use refspec::side::text_of;
 use row_fields::RowPlace;
-use row_list::{RowStep, next_row};
+use row_list::row_at;
 
 // How many bytes the line of a row has.
 fn row_size(list: &[u8], row: RowPlace) -> usize
     requires { RowStands list.now row }
     ensures { (result ≡ length (row_line (row_meant list.now row))) × (result ≤ line_most) }
 {
-    let at = row.src_at;
-    let end = at + row.src_len;
+    let at = row.src.at;
+    let end = at + row.src.len;
     let dst = row.dst;
     let there = dst.is_present();
     let destination = text_of(list, b"HEAD", dst);
@@ -39,8 +39,8 @@ fn put_row(out: &mut [u8], i: usize, list: &[u8], row: RowPlace) -> usize
     requires { RowStands list.now row × (i + length (row_line (row_meant list.now row)) ≤ length out.old) }
     ensures { (out.new ≡ splice out.old i (row_line (row_meant list.now row))) × (result ≡ i + length (row_line (row_meant list.now row))) }
 {
-    let at = row.src_at;
-    let end = at + row.src_len;
+    let at = row.src.at;
+    let end = at + row.src.len;
     let dst = row.dst;
     let there = dst.is_present();
     let destination = text_of(list, b"HEAD", dst);
@@ -63,20 +63,11 @@ fn rows_size(list: &[u8]) -> usize
 {
     let mut c = Cursor::new();
     let mut size = 0;
-    loop {
-        match next_row(c, list, SPEC_COUNT) {
-            RowStep::Row { row, next } => {
-                size += row_size(list, row);
-                c = next;
-            }
-            RowStep::End => {
-                return size;
-            }
-            RowStep::Refused(_) => {
-                return size;
-            }
-        }
+    while let Some(r) = row_at(c, list, SPEC_COUNT) {
+        size += row_size(list, r.value);
+        c = r.next;
     }
+    size
 }
 
 // Writes the lines of a row list, and answers the place after them. No row of a list that was accepted is refused.
@@ -86,20 +77,11 @@ fn put_rows(out: &mut [u8], at: usize, list: &[u8]) -> usize
 {
     let mut c = Cursor::new();
     let mut i = at;
-    loop {
-        match next_row(c, list, SPEC_COUNT) {
-            RowStep::Row { row, next } => {
-                i = put_row(out, i, list, row);
-                c = next;
-            }
-            RowStep::End => {
-                return i;
-            }
-            RowStep::Refused(_) => {
-                return i;
-            }
-        }
+    while let Some(r) = row_at(c, list, SPEC_COUNT) {
+        i = put_row(out, i, list, r.value);
+        c = r.next;
     }
+    i
 }
 
 // Prints a row list at the start of the buffer, and answers how many bytes it printed.

@@ -17,7 +17,7 @@ ghost use Rattle.kept_rows.specs.Rows.{kept_bytes, fix_on, fix_numbers_most, fix
 use list::cursor::Cursor;
 use parse::types::Side;
 use row_fields::RowPlace;
-use row_list::{RowStep, next_row};
+use row_list::row_at;
 
 // How many bytes the kept rows and the fixes take.
 #[derive(Clone, Copy)]
@@ -83,22 +83,12 @@ pub fn measure(rows: &[u8], specs: usize) -> Lengths
     let mut kept = 0;
     let mut fixed = 0;
     let mut c = Cursor::new();
-    loop {
-        let at = c.at;
-        match next_row(c, rows, specs) {
-            RowStep::Row { row, next } => {
-                kept += row_size(rows, specs, at, row, next.at);
-                fixed += fix_size(rows, row.spec, row.dst);
-                c = next;
-            }
-            RowStep::End => {
-                return Lengths { kept, fixed };
-            }
-            RowStep::Refused(_) => {
-                return Lengths { kept, fixed };
-            }
-        }
+    while let Some(r) = row_at(c, rows, specs) {
+        kept += row_size(rows, specs, c.at, r.value, r.next.at);
+        fixed += fix_size(rows, r.value.spec, r.value.dst);
+        c = r.next;
     }
+    Lengths { kept, fixed }
 }
 
 // Writes the fix of a destination, and answers the place after it; a full one gives none.
@@ -159,19 +149,9 @@ pub fn put_rows(out: &mut [u8], fixes: &mut [u8], rows: &[u8], specs: usize) -> 
 {
     let mut to = Lengths { kept: 0, fixed: 0 };
     let mut c = Cursor::new();
-    loop {
-        let at = c.at;
-        match next_row(c, rows, specs) {
-            RowStep::Row { row, next } => {
-                to = put_either(out, fixes, to, rows, specs, at, row, next.at);
-                c = next;
-            }
-            RowStep::End => {
-                return to;
-            }
-            RowStep::Refused(_) => {
-                return to;
-            }
-        }
+    while let Some(r) = row_at(c, rows, specs) {
+        to = put_either(out, fixes, to, rows, specs, c.at, r.value, r.next.at);
+        c = r.next;
     }
+    to
 }

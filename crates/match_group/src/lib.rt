@@ -51,14 +51,14 @@ fn list_in(
 {
     let count = note_group(specs, records, n, table, negatives);
     let mut places = [0u16; PLACES_ROOM];
-    let c = read_places(items, &mut places);
-    if c.refusal != 0 {
-        return refused(c.refusal, c.record);
-    }
+    let names = match read_places(items, &mut places) {
+        Ok(names) => names,
+        Err(e) => return refused(e.refusal.number(), e.record),
+    };
     let scope = Scope {
         back,
         specs: n,
-        names: c.count,
+        names,
         negatives: count,
     };
     list_group(scope, specs, table, items, &places, negatives, out)
@@ -120,16 +120,15 @@ fn list_many(
 fn list(back: bool, op: u64, specs: &[u8], items: &[u8], out: &mut [u8]) -> Written
     ensures { MeetsOne (listing_answer back op specs.now items.now) out.old out.new result.refusal result.record result.length }
 {
-    let g = read_specs(op, specs);
-    if g.refusal != 0 {
-        return refused(g.refusal, g.record);
+    let g = match read_specs(op, specs) {
+        Ok(g) => g,
+        Err(e) => return refused(e.refusal.number(), e.record),
+    };
+    if g.count <= FEW {
+        list_few(back, specs, g.specs, g.count, items, out)
+    } else {
+        list_many(back, specs, g.specs, g.count, items, out)
     }
-    let n = g.count;
-    let records = g.specs;
-    if n <= FEW {
-        return list_few(back, specs, records, n, items, out);
-    }
-    list_many(back, specs, records, n, items, out)
 }
 
 // The forward listing of the items under the specs, as a row list.

@@ -19,6 +19,9 @@ use Rattle.meaning.specs.Entries.{◌and_then◌, GroupPrefixBytes, IsGroupPrefi
 use Rattle.buffer.specs.declared.written.Written.{Written}
 use Rattle.buffer.specs.Answers.{refused_with}
 use Rattle.buffer.proofs.Meets.{made-refused}
+use Rattle.std.specs.Prelude.{Result, Ok, Err}
+use Rattle.refusal.specs.Numbers.{number_of}
+use Rattle.list.specs.declared.refused.Refused.{Refused}
 use Rattle.spec_list.specs.declared.Group.{Group}
 use Rattle.spec_list.specs.Group.{group_meant, AllWithin, GroupRead}
 use Rattle.spec_list.proofs.Told.{GroupPassed, group-passed, group-failed}
@@ -67,16 +70,16 @@ prefixes-are op specs = go (read_specs op specs)
 pub prefixes-meet : (op : ℕ) (specs entry exit : Text) (refusal record_number size : ℕ) → MeetsOne (group_prefixes op specs) entry exit refusal record_number size → MeetsPrefixes op specs entry exit refusal record_number size
 prefixes-meet op specs entry exit refusal record_number size m = record { answer = group_prefixes op specs; is = prefixes-are op specs; meets = m }
 
-module _ (op : ℕ) (specs : Text) (g : Group) (r : GroupRead specs g (read_specs op specs)) (entry : Text) where
+module _ (op : ℕ) (specs : Text) (v : Result Group Refused) (r : GroupRead specs v (read_specs op specs)) (entry : Text) where
   -- a refused list leaves the buffer as it was
-  pub group-refused : (g.refusal ≡ 0 → ⊥) → (w : Written) → w ≡ refused_with g.refusal g.«record» → MeetsOne (group_prefixes op specs) entry entry w.refusal w.«record» w.length
-  group-refused z w e =
-      let f = group-failed specs g (read_specs op specs) r z in
-      made-refused (group_prefixes op specs) entry g.refusal f.carried g.«record» w (refused-is op specs g.refusal f.carried f.answer) f.number e
+  pub group-refused : (x : Refused) → v ≡ Err x → (k : ℕ) → k ≡ number_of x.refusal → (w : Written) → w ≡ refused_with k x.«record» → MeetsOne (group_prefixes op specs) entry entry w.refusal w.«record» w.length
+  group-refused x z k ek w e =
+      let f = group-failed specs v (read_specs op specs) r x z in
+      made-refused (group_prefixes op specs) entry (number_of x.refusal) f.carried x.«record» w (refused-is op specs (number_of x.refusal) f.carried f.answer) f.number (rw (← ek) e)
 
-  module _ (z : g.refusal ≡ 0) where
+  module _ (g : Group) (z : v ≡ Ok g) where
     passed : GroupPassed specs g (read_specs op specs)
-    passed = group-passed specs g (read_specs op specs) r z
+    passed = group-passed specs v (read_specs op specs) r g z
 
     -- an accepted one has at most so many specs
     pub group-count : g.count ≤ spec_count

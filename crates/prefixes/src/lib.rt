@@ -212,11 +212,8 @@ fn list_group(
 pub fn group_prefixes(op: u64, specs: &[u8], out: &mut [u8]) -> Written
     ensures { MeetsOne (group_prefixes op specs.now) out.old out.new result.refusal result.record result.length }
 {
-    let g = read_specs(op, specs);
-    if g.refusal != 0 {
-        return refused(g.refusal, g.record);
+    match read_specs(op, specs) {
+        Ok(g) => list_group(op, specs, g.specs, g.count, FEW, out),
+        Err(e) => refused(e.refusal.number(), e.record),
     }
-    let group = g.specs;
-    let n = g.count;
-    list_group(op, specs, group, n, FEW, out)
 }

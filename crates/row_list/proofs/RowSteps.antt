@@ -1,4 +1,5 @@
 -- What is told of the row at a place of its list, and the list that is being read. Assumes nothing.
+use mathlib.Core.Logic.{inl, inr}
 use mathlib.Core.Path.{◌≡◌, refl, sym, ap, ◌∙◌}
 use mathlib.Core.Bool.{Bool, true, false, not}
 use Prim.Native.Nat.{ℕ, ◌+◌, ◌-◌, ◌<◌, ◌≤◌}
@@ -13,6 +14,7 @@ use Rattle.promises.specs.Facts.{records}
 use Rattle.promises.proofs.Members.{rows_long}
 use Rattle.promises.proofs.Steps.{rows-shrink, list-records}
 use Rattle.std.specs.Prelude.{Option, None, Some, Result, Ok, Err}
+use Rattle.std.specs.Result.{result_unwrap_or}
 use Rattle.refusal.specs.declared.Refusal.{Refusal}
 use Rattle.refusal.specs.declared.Refusal.TheVariants as refusals
 use Rattle.refusal.specs.Numbers.{number_of}
@@ -22,7 +24,7 @@ use Rattle.list.specs.Checked.{Checked, checked, numbered}
 use Rattle.list.proofs.Readings.{numbered-ok, numbered-err, Reading, reading-starts, reading-whole, reading-refused, reading-more}
 use Rattle.row_fields.specs.declared.RowPlace.{RowPlace}
 use Rattle.row_fields.specs.Fields.{row_meant, FrontTaken, FrontSays}
-use Rattle.row_list.specs.Rows.{placed_row, row_step_at, RowTaken, RowTurned, RowSays}
+use Rattle.row_list.specs.Rows.{placed_row, row_step_at, RowTaken, RowTurned, RowSays, found_row, RowHere}
 
 not-true : (b : Bool) → not b ≡ true → b ≡ false
 not-true true e = absurd (let z : ◌≡◌ {A = ℕ} 0 1 = cc in omega arith)
@@ -89,6 +91,7 @@ module _ (specs : ℕ) (s : Text) (at : ℕ) (here : at < length s) (a : Option 
               src-within = t.src-within;
               dst-within = t.dst-within;
               spec-small = t.spec-small;
+              placed = t.placed;
               passes = passed;
               on = omega (arith, length-drop r.next.at s, length-drop at s);
               within = t.within;
@@ -106,6 +109,19 @@ module _ (specs : ℕ) (s : Text) (at : ℕ) (here : at < length s) (a : Option 
 
     pub broken-told : RowTurned specs s at 13
     broken-told = record { here = here; reads = broken }
+
+-- the answers of `row_at`
+row-here : (specs : ℕ) (s : Text) (at : ℕ) (w : Result (Option (Record RowPlace)) Refusal) → RowSays specs s at w → RowHere specs s at (found_row w)
+row-here specs s at (Ok (Some r)) h = h
+row-here specs s at (Ok None) h = inl h
+row-here specs s at (Err e) h = inr (number_of e, h)
+
+pub unwrapped : (w : Result (Option (Record RowPlace)) Refusal) → result_unwrap_or w None ≡ found_row w
+unwrapped (Ok o) = refl
+unwrapped (Err e) = refl
+
+pub row-found : (specs : ℕ) (s : Text) (at : ℕ) (w : Result (Option (Record RowPlace)) Refusal) → w ≡ row_step_at specs s at → RowSays specs s at w → (o : Option (Record RowPlace)) → o ≡ found_row w → (o ≡ found_row (row_step_at specs s at)) × RowHere specs s at o
+row-found specs s at w e h o q = (rw (← e) q, rw q (row-here specs s at w h))
 
 -- a row list that is being read
 pub rows_start : (specs : ℕ) (s : Text) (at : ℕ) → at ≡ 0 → Reading (rows.row_record specs) s at 0

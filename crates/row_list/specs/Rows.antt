@@ -1,5 +1,5 @@
 -- What stands at a place of a row list: a row as places.
-use Rattle.std.specs.Prelude.{ℕ, ◌+◌, ◌-◌, ◌<◌, ◌≤◌, ◌≡◌, true, cond, ltb, length, drop, Option, None, Some, Result, Ok, Err}
+use Rattle.std.specs.Prelude.{◌⊎◌, ℕ, ◌+◌, ◌-◌, ◌<◌, ◌≤◌, ◌≡◌, true, cond, ltb, length, drop, Option, None, Some, Result, Ok, Err}
 use Rattle.meaning.specs.Bytes.{Text}
 use Rattle.meaning.specs.Number.{Step, took, no}
 use Rattle.meaning.specs.Rows as meaning
@@ -27,6 +27,7 @@ pub record RowTaken (specs : ℕ) (s : Text) (at : ℕ) (row : RowPlace) (next :
   pub src-within : row.src.at + row.src.len ≤ length s
   pub dst-within : Within (length s) row.dst
   pub spec-small : row.spec ≤ largest_number
+  pub placed : row ≡ row_place next (row_meant s row)
   pub passes : meaning.row_passes specs (row_meant s row) ≡ true
   pub on : at < next
   pub within : next ≤ length s
@@ -41,3 +42,13 @@ abbrev pub RowSays : ℕ → Text → ℕ → Result (Option (Record RowPlace)) 
 RowSays specs s at (Ok (Some r)) = RowTaken specs s at r.value r.next.at
 RowSays specs s at (Ok None) = length s ≤ at
 RowSays specs s at (Err e) = RowTurned specs s at (number_of e)
+
+-- the row that an answer holds, if any
+abbrev pub found_row : Result (Option (Record RowPlace)) Refusal → Option (Record RowPlace)
+found_row (Ok o) = o
+found_row (Err e) = None
+
+-- what is told of the row at a place of a list that was read
+abbrev pub RowHere : ℕ → Text → ℕ → Option (Record RowPlace) → Type 0
+RowHere specs s at (Some r) = RowTaken specs s at r.value r.next.at
+RowHere specs s at None = (length s ≤ at) ⊎ ((n : ℕ) × RowTurned specs s at n)

@@ -7,10 +7,10 @@ ghost use Rattle.meaning.specs.Rows.{object_digits, row_passes, row_record, read
 ghost use Rattle.promises.specs.Facts.{records};
 ghost use Rattle.list.specs.Checked.{checked, numbers_of};
 ghost use Rattle.row_fields.specs.Fields.{row_meant};
-ghost use Rattle.row_list.specs.Rows.{row_step_at, RowSays};
+ghost use Rattle.row_list.specs.Rows.{row_step_at, RowSays, found_row, RowHere};
 
 use limits::{ID_DIGITS, ROW_LIST_BYTES};
-use list::cursor::{Cursor, Step};
+use list::cursor::{Cursor, Record, Step};
 use list::refused::{Refused, numbered};
 use refusal::Refusal;
 use row_fields::{RowPlace, read_front};
@@ -44,6 +44,13 @@ pub fn next_row(c: Cursor, list: &[u8], specs: usize) -> Step<RowPlace>
         return Err(Refusal::RowOutside);
     }
     Ok(Some(r))
+}
+
+// The row that stands at a cursor of a row list that was read, where none is refused; none at its end.
+pub fn row_at(c: Cursor, list: &[u8], specs: usize) -> Option<Record<RowPlace>>
+    ensures { (result ≡ found_row (row_step_at specs list.now c.at)) × RowHere specs list.now c.at result }
+{
+    next_row(c, list, specs).unwrap_or(None)
 }
 
 // The rows of a row list, one after the other.

@@ -132,14 +132,13 @@ fn judged(rows: &[u8], specs: usize, count: usize, out: &mut [u8], fixes: &mut [
 pub fn validated(op: u64, specs: &[u8], rows: &[u8], out: &mut [u8], fixes: &mut [u8]) -> Validation
     ensures { MeetsTwo (validated op specs.now rows.now) out.old fixes.old out.new fixes.new result.refusal result.record result.conflicts result.length result.fixes_length result.buffer }
 {
-    let g = check_specs(op, specs);
-    if g.refusal != 0 {
-        return refused(g.refusal, g.record);
-    }
-    let n = g.count;
-    let c = read_rows(rows, n);
-    if c.refusal != 0 {
-        return refused(c.refusal, c.record);
-    }
-    judged(rows, n, c.count, out, fixes)
+    let n = match check_specs(op, specs) {
+        Ok(n) => n,
+        Err(e) => return refused(e.refusal.number(), e.record),
+    };
+    let count = match read_rows(rows, n) {
+        Ok(count) => count,
+        Err(e) => return refused(e.refusal.number(), e.record),
+    };
+    judged(rows, n, count, out, fixes)
 }

@@ -143,7 +143,13 @@ fn object_part(op: u64, specs: &[u8], n: usize) -> Result<Viewed, Refused>
 }
 
 // The part that a forward row's source is: field 0 takes the digits of the spec's object source, a higher field that item's name.
-fn part_viewed(op: u64, specs: &[u8], items: &[u8], field: usize, n: usize) -> Result<Viewed, Refused>
+fn part_viewed(
+    op: u64,
+    specs: &[u8],
+    items: &[u8],
+    field: usize,
+    n: usize,
+) -> Result<Viewed, Refused>
     ensures { part_told result ≡ part_of (source_view op specs.now items.now field n) }
 {
     let group = spec_list::check_specs(op, specs)?;
