@@ -4,12 +4,12 @@
 ghost use Rattle.std.specs.Prelude.{◌≡◌, [], ◌≤◌, length};
 ghost use Rattle.meaning.specs.Bytes.{keep, each};
 ghost use Rattle.meaning.specs.Rows.{row_list_of};
-ghost use Rattle.meaning.specs.Spec.{accepted};
-ghost use Rattle.meaning.specs.Validation.{conflicts, verdict, is_kept, fix_of, fix_bytes};
-ghost use Rattle.meaning.specs.Entries.{verdict_bytes, validated};
+ghost use Rattle.meaning.specs.Validation.{conflicts, is_kept, fix_of, fix_bytes};
+ghost use Rattle.meaning.specs.Entries.{validated};
 ghost use Rattle.meaning.specs.Buffers.{MeetsTwo};
 ghost use Rattle.row_list.specs.Lists.{rows_in, RowsRead};
 ghost use Rattle.validate.specs.Answers.{validation_refused, short_of};
+ghost use Rattle.validate.specs.Verdicts.{TellsVerdict};
 
 use conflicts::put_conflicts;
 use kept_rows::{measure, put_rows};
@@ -61,7 +61,7 @@ fn short(buffer: u64, needed: usize) -> Validation
 // Rows without conflicts, for which both buffers have room.
 fn written(rows: &[u8], specs: usize, out: &mut [u8], fixes: &mut [u8]) -> Validation
     requires { RowsRead specs rows.now × (conflicts (rows_in specs rows.now) ≡ []) × (length (row_list_of (keep is_kept (rows_in specs rows.now))) ≤ length out.old) × (length (each (each (rows_in specs rows.now) fix_of) fix_bytes) ≤ length fixes.old) }
-    ensures { MeetsTwo (accepted (verdict_bytes (verdict (rows_in specs rows.now)))) out.old fixes.old out.new fixes.new result.refusal result.record result.conflicts result.length result.fixes_length result.buffer }
+    ensures { TellsVerdict specs rows.now out.old fixes.old out.new fixes.new result }
 {
     let n = put_rows(out, fixes, rows, specs);
     Validation {
@@ -77,38 +77,34 @@ fn written(rows: &[u8], specs: usize, out: &mut [u8], fixes: &mut [u8]) -> Valid
 // Rows without conflicts, measured. Both buffers are asked before one is written.
 fn measured(rows: &[u8], specs: usize, out: &mut [u8], fixes: &mut [u8]) -> Validation
     requires { RowsRead specs rows.now × (conflicts (rows_in specs rows.now) ≡ []) }
-    ensures { MeetsTwo (accepted (verdict_bytes (verdict (rows_in specs rows.now)))) out.old fixes.old out.new fixes.new result.refusal result.record result.conflicts result.length result.fixes_length result.buffer }
+    ensures { TellsVerdict specs rows.now out.old fixes.old out.new fixes.new result }
 {
     let n = measure(rows, specs);
-    let kept = n.kept;
-    let fixed = n.fixed;
-    if out.len() < kept {
-        return short(1, kept);
+    if out.len() < n.kept {
+        short(1, n.kept)
+    } else if fixes.len() < n.fixed {
+        short(2, n.fixed)
+    } else {
+        written(rows, specs, out, fixes)
     }
-    if fixes.len() < fixed {
-        return short(2, fixed);
-    }
-    written(rows, specs, out, fixes)
 }
 
 // Rows without conflicts: those that are kept, and the fixes of the others. A buffer as long as the row list has room without measuring.
 fn passed(rows: &[u8], specs: usize, out: &mut [u8], fixes: &mut [u8]) -> Validation
     requires { RowsRead specs rows.now × (conflicts (rows_in specs rows.now) ≡ []) }
-    ensures { MeetsTwo (accepted (verdict_bytes (verdict (rows_in specs rows.now)))) out.old fixes.old out.new fixes.new result.refusal result.record result.conflicts result.length result.fixes_length result.buffer }
+    ensures { TellsVerdict specs rows.now out.old fixes.old out.new fixes.new result }
 {
-    if out.len() < rows.len() {
-        return measured(rows, specs, out, fixes);
+    if rows.len() <= out.len() && rows.len() <= fixes.len() {
+        written(rows, specs, out, fixes)
+    } else {
+        measured(rows, specs, out, fixes)
     }
-    if fixes.len() < rows.len() {
-        return measured(rows, specs, out, fixes);
-    }
-    written(rows, specs, out, fixes)
 }
 
 // Rows that were read, so many: conflicts are looked for before a row goes out. The fix buffer is left alone where there are any.
 fn judged(rows: &[u8], specs: usize, count: usize, out: &mut [u8], fixes: &mut [u8]) -> Validation
     requires { RowsRead specs rows.now × (count ≡ length (rows_in specs rows.now)) }
-    ensures { MeetsTwo (accepted (verdict_bytes (verdict (rows_in specs rows.now)))) out.old fixes.old out.new fixes.new result.refusal result.record result.conflicts result.length result.fixes_length result.buffer }
+    ensures { TellsVerdict specs rows.now out.old fixes.old out.new fixes.new result }
 {
     let room = out.len();
     let size = put_conflicts(out, rows, specs, count);
