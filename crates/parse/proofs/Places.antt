@@ -168,7 +168,7 @@ else-most false n x h i = h
 
 pub spec_refusal-most : (op : ℕ) (t : Text) → spec_refusal op t ≤ 18
 unfolding spec_refusal sides_refusal
-spec_refusal-most op t = search (else-most, arith) depth 40
+spec_refusal-most op t = search (else-most, arith) depth 30
 
 -- what reading answers means what the meaning reads
 pub parsed-meant : (op : ℕ) (t : Text) → parsed_meant t (parsed op t) ≡ read_spec op t
