@@ -74,8 +74,7 @@ fn note(hits: &mut [u32], count: usize, size: usize, hit: usize) -> usize
     count + 1
 }
 
-// Measures and notes what name j gives in the turn of a spec. It is not inlined, so that the loop over the names that a filter stops is short.
-#[inline(never)]
+// Measures and notes what name j gives in the turn of a spec.
 fn name_found(
     turn: Turn,
     specs: &[u8],

@@ -115,7 +115,8 @@ fn each_spec(op: u64, list: &[u8]) -> Result<Group, Refused>
     Ok(Group { count, specs })
 }
 
-// Reads a spec list for an operation, 0 fetch or 1 push.
+// Reads a spec list for an operation, 0 fetch or 1 push. Inlined, since else the place for its answer is cleared before its table is.
+#[inline(always)]
 pub fn read_specs(op: u64, list: &[u8]) -> Result<Group, Refused>
     ensures { GroupRead list.now result (read_specs op list.now) }
 {
