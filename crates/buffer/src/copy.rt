@@ -43,12 +43,10 @@ pub(crate) fn put_by_bytes(dst: &mut [u8], at: usize, src: &[u8]) -> usize
     requires { at + length src.now ≤ length dst.old }
     ensures { (dst.new ≡ splice dst.old at src.now) × (result ≡ at + length src.now) }
 {
-    let mut i = 0;
-    while i < src.len() {
-        dst[at + i] = src[i];
-        i += 1;
+    for (i, b) in src.iter().enumerate() {
+        dst[at + i] = *b;
     }
-    at + i
+    at + src.len()
 }
 
 // Writes src, which has four bytes to seven: the first four, and the last four over them. Answers the place after it.
@@ -68,10 +66,8 @@ pub(crate) fn put_by_eights(dst: &mut [u8], at: usize, src: &[u8]) -> usize
     ensures { (dst.new ≡ splice dst.old at src.now) × (result ≡ at + length src.now) }
 {
     let last = src.len() - 8;
-    let mut i = 0;
-    while i < last {
+    for i in (0..last).step_by(8) {
         copy_eight(dst, at + i, src, i);
-        i += 8;
     }
     copy_eight(dst, at + last, src, last);
     at + src.len()

@@ -46,10 +46,8 @@ pub fn put_lower(dst: &mut [u8], at: usize, src: &[u8]) -> usize
     requires { at + length src.now ≤ length dst.old }
     ensures { (dst.new ≡ splice dst.old at (lower src.now)) × (result ≡ at + length (lower src.now)) }
 {
-    let mut i = 0;
-    while i < src.len() {
-        dst[at + i] = lower_byte(src[i]);
-        i += 1;
+    for (i, b) in src.iter().enumerate() {
+        dst[at + i] = lower_byte(*b);
     }
-    at + i
+    at + src.len()
 }

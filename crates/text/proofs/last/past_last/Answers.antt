@@ -5,7 +5,7 @@ use Rattle.text.proofs.last.past_last.Goals as goal
 pub loop-front-preserved : goal.loop-front-preserved
 loop-front-preserved c =
     let parts = c.in-Some.ensures.cases in (
-      last-before c.args.b c.loop-front.rest.now _ _ _ parts.0 parts.1 (sym c.contains.ensures.value ∙ c.if-contains.false) ∙ c.loop-front.invariant.0,
+      last-before c.args.b c.loop-front.rest.now _ _ _ parts.0 parts.1 (sym c.is_among.ensures ∙ c.if-is_among.false) ∙ c.loop-front.invariant.0,
       omega arith,
     )
 
