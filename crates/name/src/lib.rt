@@ -55,7 +55,9 @@ fn after_at(s: &[u8]) -> bool
     !matches!(s, [b'{', ..])
 }
 
-// A name may have the byte number i, and before what follows it.
+// A name may have the byte number i, and before what follows it. It is asked in each turn of a loop; a call there takes 6 percent more
+// instructions to read specs.
+#[inline(always)]
 fn stands(s: &[u8], i: usize) -> bool
     requires { i < length s.now }
     ensures { result ≡ stands (get_or s.now i 0) (drop (i + 1) s.now) }
@@ -83,7 +85,7 @@ fn past_letters(s: &[u8], from: usize) -> usize
 }
 
 // The place of the first byte that does not stand, or the length.
-// As it is: a loop with a step of its own, since one `for` that asks letters first takes 7 percent more instructions to read specs.
+// As it is: (b) a loop with a step of its own, since one `for` that asks letters first takes 7 percent more instructions to read specs.
 fn past_standing(s: &[u8]) -> usize
     ensures { (result ≡ standing s.now) × (result ≤ length s.now) }
 {
