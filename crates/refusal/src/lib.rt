@@ -72,11 +72,3 @@ impl Refusal {
         }
     }
 }
-
-impl From<Refusal> for u64 {
-    ghost from_gives = { λ r n. n ≡ number_of r };
-
-    fn from(r: Refusal) -> u64 {
-        r.number()
-    }
-}
