@@ -12,13 +12,6 @@ last_none b (x ∷ s) h =
     let e : eqb b x ≡ false = h 0 (omega arith) (omega arith) in
     rw (last_none b s (λ k l m. h (suc k) (omega arith) (omega arith)), e)
 
--- and none of its bytes is b
-pub none-among : (b : ℕ) (s : Text) → NoneFrom b s 0 → has_byte b s ≡ false
-none-among b [] h = refl
-none-among b (x ∷ s) h =
-    let e : eqb b x ≡ false = h 0 (omega arith) (omega arith) in
-    rw (none-among b s (λ k l m. h (suc k) (omega arith) (omega arith)), e)
-
 -- a b after which none stands is the last
 pub last-at : (b : ℕ) (s : Text) (i : ℕ) → i < length s → (b == slice_index s i) ≡ true → NoneFrom b s (i + 1) → i + 1 ≡ past_last b s
 last-at b [] i h e n = absurd (omega arith)
@@ -27,16 +20,6 @@ last-at b (x ∷ s) (suc i) h e n =
     let r : i + 1 ≡ past_last b s = last-at b s i (omega arith) e (λ k l m. n (suc k) (omega arith) (omega arith)) in
     let q : past_last b s ≡ suc i = omega arith in
     rw q (omega arith)
-
--- no place is past the end
-pub past-within : (b : ℕ) (s : Text) → past_last b s ≤ length s
-past-within b [] = omega arith
-past-within b (x ∷ s) = go (eqb b x) (past_last b s) (past-within b s)
-  where
-    go : (t : Bool) (n : ℕ) → n ≤ length s → past_next t n ≤ suc (length s)
-    go true zero h = omega arith
-    go false zero h = omega arith
-    go t (suc n) h = omega arith
 
 -- bytes of which none is b, at the end, change nothing
 none_in : (b : ℕ) (v : Text) → has_byte b v ≡ false → past_last b v ≡ 0
@@ -51,22 +34,8 @@ none_after : (b : ℕ) (u v : Text) → has_byte b v ≡ false → past_last b (
 none_after b [] v e = none_in b v e
 none_after b (x ∷ u) v e = rw (none_after b u v e)
 
--- the last b of what stands at the end is the last of all
-last_after : (b : ℕ) (u v : Text) (m : ℕ) → past_last b v ≡ suc m → past_last b (u ++ v) ≡ length u + suc m
-last_after b [] v m e = e ∙ omega arith
-last_after b (x ∷ u) v m e =
-    let q : length u + suc m ≡ suc (length u + m) = omega arith in
-    rw (last_after b u v m e, q) (omega arith)
-
-module _ (b : ℕ) (s front block : Text) (n : ℕ) (d : front ≡ take n s) (e : block ≡ drop n s) where
-  pub last-before : has_byte b block ≡ false → past_last b front ≡ past_last b s
-  last-before h = rw d (sym (none_after b (take n s) (drop n s) (rw e at h)) ∙ ap (past_last b) (take-append-drop n s))
-
-  pub last-in : (i : ℕ) → i + 1 ≡ past_last b block → length front + i + 1 ≡ past_last b s
-  last-in i q =
-      let m : past_last b (drop n s) ≡ suc i = sym (rw e at q) ∙ omega arith in
-      let whole : past_last b s ≡ length front + suc i = sym (ap (past_last b) (take-append-drop n s)) ∙ last_after b (take n s) (drop n s) i m ∙ rw d (omega arith) in
-      omega arith
+pub last-before : (b : ℕ) (s front block : Text) (n : ℕ) → front ≡ take n s → block ≡ drop n s → has_byte b block ≡ false → past_last b front ≡ past_last b s
+last-before b s front block n d e h = rw d (sym (none_after b (take n s) (drop n s) (rw e at h)) ∙ ap (past_last b) (take-append-drop n s))
 
 -- one byte more was asked: what was found and what is left make the whole
 module _ (b : ℕ) (s : Text) (i : ℕ) (found : Bool) (inv : (found || has_byte b (drop i s)) ≡ has_byte b s) where

@@ -1,5 +1,5 @@
-use Rattle.std.proofs.Common.{◌∙◌, sym, arith, true≢false}
-use Rattle.text.proofs.Lasts.{last_none, last-at, last-before, last-in, none-among, past-within}
+use Rattle.std.proofs.Common.{◌∙◌, sym, arith}
+use Rattle.text.proofs.Lasts.{last_none, last-at, last-before}
 use Rattle.text.proofs.last.past_last.Goals as goal
 
 pub loop-front-preserved : goal.loop-front-preserved
@@ -10,22 +10,11 @@ loop-front-preserved c =
     )
 
 pub returns-in_err-last_place : goal.returns-in_err-last_place
-returns-in_err-last_place c = absurd (true≢false (sym c.if-is_among.true ∙ c.is_among.ensures ∙ none-among c.args.b c.in-Some.block.now c.in_err-last_place.ensures))
-
-pub returns-then-is_among : goal.returns-then-is_among
-returns-then-is_among c =
-    let parts = c.in-Some.ensures.cases in
-    let here = c.in_ok-last_place in
-    let at = last-at c.args.b c.in-Some.block.now here.field-0 here.ensures.0 here.ensures.1 here.ensures.2 in
-    let is = last-in c.args.b c.loop-front.rest.now _ _ _ parts.0 parts.1 here.field-0 at ∙ c.loop-front.invariant.0 in
-    (is, omega arith, omega (arith, is, past-within c.args.b c.args.s.now))
-
-pub returns-in_err-last_place-2 : goal.returns-in_err-last_place-2
-returns-in_err-last_place-2 c = rw c.from_residual-in_err-last_place-2.ensures (sym c.loop-front.invariant.0 ∙ last_none c.args.b c.loop-front.rest.now c.in_err-last_place-2.ensures)
+returns-in_err-last_place c = rw c.from_residual.ensures (sym c.loop-front.invariant.0 ∙ last_none c.args.b c.loop-front.rest.now c.in_err-last_place.ensures)
 
 pub returns : goal.returns
 returns c =
-    let here = c.in_ok-last_place-2 in (
+    let here = c.in_ok-last_place in (
       last-at c.args.b c.loop-front.rest.now here.field-0 here.ensures.0 here.ensures.1 here.ensures.2 ∙ c.loop-front.invariant.0,
       omega arith,
       omega (arith, here.ensures.0),
