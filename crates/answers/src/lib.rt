@@ -8,6 +8,9 @@ use parse::types::{Mode, RefSpec, Side};
 use refspec::instruction::Instruction;
 use refusal::Refusal;
 
+// As it is: (a) what is told to C stands in records of numbers, 0 where a field has no meaning; so each answer has a refusal's number
+// beside its fields, and the three answers differ in their records.
+
 // A side of a spec: its kind, where it begins and how many bytes it has. In the header its three fields stand in the answers themselves.
 #[repr(C)]
 #[derive(Clone, Copy)]
@@ -73,7 +76,7 @@ impl From<Side> for SideAnswer {
 }
 
 // The number of a mode: 0 normal, 1 force, 2 negative.
-// As it is: no From, for neither `Mode` nor `u64` is a type of this crate.
+// As it is: (d) no `From`, for neither `Mode` nor `u64` is a type of this crate.
 fn mode_number(m: Mode) -> u64
     ensures { result ≡ mode_number m }
 {

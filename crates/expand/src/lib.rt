@@ -21,6 +21,7 @@ use refspec::spec::{prefix_of, remote};
 use spec_text::{put_side, side_size};
 
 // What a spec yields: nothing, one text, or the six candidates of the name of so many bytes that begins at a place.
+// As it is: (d) in an `Option` of the other two cases each match would have two layers.
 #[derive(Clone, Copy)]
 pub enum Yield {
     Nothing,

@@ -6,7 +6,7 @@ ghost use Rattle.meaning.specs.Bytes.{any, same};
 ghost use Rattle.meaning.specs.Limits.{spec_list_bytes};
 ghost use Rattle.meaning.specs.Number.{text_bytes, record_bytes};
 ghost use Rattle.meaning.specs.Prefix.{candidates};
-ghost use Rattle.buffer.specs.Splice.{splice};
+ghost use Rattle.buffer.specs.Splice.{Room, Puts};
 ghost use Rattle.frames.specs.Frames.{frame_at, candidate, adds};
 
 // How many frames there are.
@@ -69,8 +69,8 @@ fn candidate_size(k: usize, name: &[u8]) -> usize
 
 // Candidate number k of a name, written from `at` on; the place after it.
 pub fn put_candidate(out: &mut [u8], at: usize, k: usize, name: &[u8]) -> usize
-    requires { (k < 6) × (at + length (candidate k name.now) ≤ length out.old) }
-    ensures { (out.new ≡ splice out.old at (candidate k name.now)) × (result ≡ at + length (candidate k name.now)) }
+    requires { (k < 6) × Room out.old at (candidate k name.now) }
+    ensures { Puts out.old at (candidate k name.now) out.new result }
 {
     let f = frame_of(k);
     let i = buffer::put(out, at, f.leading);
@@ -89,8 +89,8 @@ pub fn record_size(k: usize, name: &[u8]) -> usize
 
 // Candidate number k as a record of a prefix list, written from `at` on; the place after it.
 pub fn put_record(out: &mut [u8], at: usize, k: usize, name: &[u8]) -> usize
-    requires { (k < 6) × (length name.now ≤ spec_list_bytes) × (at + length (text_bytes (candidate k name.now)) ≤ length out.old) }
-    ensures { (out.new ≡ splice out.old at (text_bytes (candidate k name.now))) × (result ≡ at + length (text_bytes (candidate k name.now))) }
+    requires { (k < 6) × (length name.now ≤ spec_list_bytes) × Room out.old at (text_bytes (candidate k name.now)) }
+    ensures { Puts out.old at (text_bytes (candidate k name.now)) out.new result }
 {
     let i = number::put(out, at, candidate_size(k, name));
     put_candidate(out, i, k, name)
@@ -110,8 +110,8 @@ pub fn candidates_size(name: &[u8]) -> usize
 
 // The candidates of a name as a prefix list, written from `at` on; the place after it.
 pub fn put_candidates(out: &mut [u8], at: usize, name: &[u8]) -> usize
-    requires { (length name.now ≤ spec_list_bytes) × (at + length (record_bytes (candidates name.now)) ≤ length out.old) }
-    ensures { (out.new ≡ splice out.old at (record_bytes (candidates name.now))) × (result ≡ at + length (record_bytes (candidates name.now))) }
+    requires { (length name.now ≤ spec_list_bytes) × Room out.old at (record_bytes (candidates name.now)) }
+    ensures { Puts out.old at (record_bytes (candidates name.now)) out.new result }
 {
     let mut i = at;
     for k in 0..FRAMES {

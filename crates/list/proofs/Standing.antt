@@ -21,7 +21,6 @@ use Rattle.buffer.specs.Splice.{splice}
 use Rattle.buffer.proofs.Splices.{splice-none, splice-next, splice-byte}
 use Rattle.parse.specs.Places.{part_at}
 use Rattle.parse.proofs.Parts.{part_length}
-use Rattle.list.specs.declared.cursor.Cursor.{Cursor}
 use Rattle.std.specs.Prelude.{Option, None, Some, Result, Ok, Err}
 use Rattle.refusal.specs.declared.Refusal.{Refusal}
 use Rattle.refusal.specs.Numbers.{number_of, question}

@@ -37,6 +37,8 @@ fn each_item(list: &[u8]) -> Result<usize, Refused>
 {
     let mut c = Cursor::new();
     let mut count: usize = 0;
+    // As it is: (d) a record says where the next begins and `?` ends the walk, so an iterator would hold the cursor and the count and hand out a
+    // `Result`; the laws of such a walk stand once, in `list/proofs/Readings.antt`.
     while let Some(r) = numbered(item_at(list, c, count), count)? {
         c = r.next;
         count += 1;

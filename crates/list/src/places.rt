@@ -30,6 +30,7 @@ fn each_place(list: &[u8], places: &mut [u16]) -> Result<usize, Refused>
 {
     let mut c = Cursor::new();
     let mut count: usize = 0;
+    // As it is: (d) a walk as in `items.rt`, for the reason given there.
     while let Some(r) = numbered(item_at(list, c, count), count)? {
         put_place(places, count, r.value);
         c = r.next;

@@ -1,9 +1,9 @@
 // Numbers in groups of seven bits: lowest first, the top bit set while more follow, in the shortest form.
 #![tactic(auto)]
 
-ghost use Rattle.std.specs.Prelude.{◌≡◌, ◌+◌, ◌<◌, ◌≤◌, length};
+ghost use Rattle.std.specs.Prelude.{◌≡◌, ◌<◌, ◌≤◌, length};
 ghost use Rattle.meaning.specs.Number.{number_bytes};
-ghost use Rattle.buffer.specs.Splice.{splice};
+ghost use Rattle.buffer.specs.Splice.{Room, Puts};
 ghost use Rattle.meaning.specs.Limits.{largest_number};
 ghost use Rattle.number.specs.Reading.{found_at, number_at, after_one, after_two};
 
@@ -82,12 +82,12 @@ pub fn size(n: usize) -> usize
 
 // `n` written from `at` on; the place after it.
 pub fn put(out: &mut [u8], at: usize, n: usize) -> usize
-    requires { (n ≤ largest_number) × (at + length (number_bytes n) ≤ length out.old) }
-    ensures { (result ≡ at + length (number_bytes n)) × (out.new ≡ splice out.old at (number_bytes n)) }
+    requires { (n ≤ largest_number) × Room out.old at (number_bytes n) }
+    ensures { Puts out.old at (number_bytes n) out.new result }
 {
     let mut i = at;
     let mut rest = n;
-    // As it is: what is left of the number ends the loop, and a `for` over its bytes would have to measure them first.
+    // As it is: (d) what is left of the number ends the loop, and a `for` over its bytes would have to measure them first.
     while 128 <= rest {
         out[i] = (128 + rest % 128) as u8;
         rest /= 128;

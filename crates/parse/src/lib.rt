@@ -9,7 +9,7 @@ mod questions;
 mod split;
 pub mod types;
 
-use questions::{entry_refusal, sides_refusal};
+use questions::{entry, sides_refusal};
 use refusal::Refusal;
 use split::split;
 use types::RefSpec;
@@ -18,7 +18,7 @@ use types::RefSpec;
 pub fn parse(op: u64, spec: &[u8]) -> Result<RefSpec, Refusal>
     ensures { (result ≡ parsed op spec.now) × (parsed_meant spec.now result ≡ read_spec op spec.now) }
 {
-    entry_refusal(op, spec)?;
+    let op = entry(op, spec)?;
     let s = split(op, spec);
     sides_refusal(op, s.colon, spec, s.spec)?;
     Ok(s.spec)

@@ -1,9 +1,9 @@
 // The sign of a spec and its sides as places, split at the last colon.
 ghost use Rattle.std.specs.Prelude.{◌≡◌, ◌+◌, ◌-◌, ◌≤◌, ◌<◌, length, take, drop};
 ghost use Rattle.meaning.specs.Spec.{mode_of, unsigned, one, two, sides_of, has_colon};
-ghost use Rattle.parse.specs.Places.{mode_meant, mode_case, part_at, placed, supplied_place, source_place, places_at, places_of};
+ghost use Rattle.parse.specs.Places.{op_meant, mode_meant, mode_case, part_at, placed, supplied_place, source_place, places_at, places_of};
 
-use super::types::{Mode, RefSpec, Side};
+use super::types::{Mode, Operation, RefSpec, Side};
 
 // The places of a spec, and whether a colon parts its sides.
 #[derive(Clone, Copy)]
@@ -26,10 +26,10 @@ fn mode_of(spec: &[u8]) -> Mode
 
 // The place of an absent source: in fetch the supplied `HEAD`, unless negative.
 #[tactic(auto, using(std::proofs::lemmas::Bool::Decides::nat_tests), unfolding(crate::specs::Places::supplied_place))]
-fn supplied(op: u64, m: Mode) -> Side
-    ensures { result ≡ supplied_place op (mode_meant m) }
+fn supplied(op: Operation, m: Mode) -> Side
+    ensures { result ≡ supplied_place (op_meant op) (mode_meant m) }
 {
-    if op == 0 && !m.is_negative() {
+    if op == Operation::Fetch && !m.is_negative() {
         Side::Head
     } else {
         Side::Absent
@@ -38,9 +38,9 @@ fn supplied(op: u64, m: Mode) -> Side
 
 // The place of a source of n bytes that begins at `at`; one without bytes may be supplied, and `@` is `HEAD`.
 #[tactic(auto, using(crate::proofs::Splits::source_none, crate::proofs::Splits::source_some))]
-fn source_place(op: u64, m: Mode, spec: &[u8], at: usize, n: usize) -> Side
+fn source_place(op: Operation, m: Mode, spec: &[u8], at: usize, n: usize) -> Side
     requires { at + n ≤ length spec.now }
-    ensures { result ≡ source_place op (mode_meant m) at (part_at spec.now at n) }
+    ensures { result ≡ source_place (op_meant op) (mode_meant m) at (part_at spec.now at n) }
 {
     if n == 0 {
         supplied(op, m)
@@ -64,9 +64,9 @@ fn destination_place(spec: &[u8], at: usize) -> Side
 }
 
 // The sides where no colon follows the sign.
-fn one_side(op: u64, m: Mode, spec: &[u8], at: usize) -> RefSpec
+fn one_side(op: Operation, m: Mode, spec: &[u8], at: usize) -> RefSpec
     requires { at ≤ length spec.now }
-    ensures { result ≡ places_at op (mode_meant m) at (one (drop at spec.now)) }
+    ensures { result ≡ places_at (op_meant op) (mode_meant m) at (one (drop at spec.now)) }
 {
     RefSpec {
         mode: m,
@@ -76,9 +76,9 @@ fn one_side(op: u64, m: Mode, spec: &[u8], at: usize) -> RefSpec
 }
 
 // The sides where the last colon is byte number `past` after the sign, counting from 1.
-fn two_sides(op: u64, m: Mode, spec: &[u8], at: usize, past: usize) -> RefSpec
+fn two_sides(op: Operation, m: Mode, spec: &[u8], at: usize, past: usize) -> RefSpec
     requires { (0 < past) × (at + past ≤ length spec.now) }
-    ensures { result ≡ places_at op (mode_meant m) at (two (take (past - 1) (drop at spec.now)) (drop past (drop at spec.now))) }
+    ensures { result ≡ places_at (op_meant op) (mode_meant m) at (two (take (past - 1) (drop at spec.now)) (drop past (drop at spec.now))) }
 {
     RefSpec {
         mode: m,
@@ -88,8 +88,8 @@ fn two_sides(op: u64, m: Mode, spec: &[u8], at: usize, past: usize) -> RefSpec
 }
 
 // The sign taken off, and the rest split at its last colon.
-pub(crate) fn split(op: u64, spec: &[u8]) -> Sides
-    ensures { (result.spec ≡ places_of op spec.now) × (result.colon ≡ has_colon (sides_of (unsigned spec.now))) }
+pub(crate) fn split(op: Operation, spec: &[u8]) -> Sides
+    ensures { (result.spec ≡ places_of (op_meant op) spec.now) × (result.colon ≡ has_colon (sides_of (unsigned spec.now))) }
 {
     let m = mode_of(spec);
     let at = m.sign_length();

@@ -3,6 +3,13 @@ ghost use Rattle.std.specs.Prelude.{◌≡◌};
 ghost use Rattle.meaning.specs.Spec.{is_negative};
 ghost use Rattle.parse.specs.Places.{mode_meant, is_present, sign_length};
 
+// An operation: what its number is read as, once question 18 has passed it.
+#[derive(Clone, Copy, Debug, PartialEq, Eq)]
+pub(crate) enum Operation {
+    Fetch,
+    Push,
+}
+
 // The way to interpret a refspec.
 #[derive(Clone, Copy, Debug, PartialEq, Eq)]
 pub enum Mode {
@@ -31,6 +38,7 @@ impl Mode {
 }
 
 // Where a side of a spec stands: absent, a start and a length in the spec's bytes, or `HEAD`, which the bytes do not spell.
+// As it is: (d) absent is one of a side's three cases, and an `Option` of the other two would part each match in two.
 #[derive(Clone, Copy, Debug, PartialEq, Eq)]
 pub enum Side {
     Absent,

@@ -57,7 +57,7 @@ fn push(force: bool, src: Side, dst: Side) -> Instruction
 }
 
 // The instruction of a spec that was read.
-// As it is: this, `remote` and `prefix_of` are no methods, for a method of `RefSpec` or `Side`, which are of `parse`, needs a trait here.
+// As it is: (d) this, `remote` and `prefix_of` are no methods, for a method of `RefSpec` or `Side`, which are of `parse`, needs a trait here.
 #[tactic(auto, using(std::proofs::lemmas::Bool::Decides::nat_tests), unfolding(crate::specs::Instructions::instruction_places))]
 pub fn instruction_of(op: u64, r: RefSpec) -> Instruction
     ensures { result ≡ instruction_places op r }

@@ -28,7 +28,7 @@ use Rattle.refusal.specs.declared.Refusal.TheVariants as refusals
 use Rattle.list.specs.Checked.{carrying, numbered}
 use Rattle.spec_list.specs.declared.Group.{Group}
 use Rattle.spec_list.specs.declared.record.SpecRecord.{SpecRecord}
-use Rattle.spec_list.specs.Group.{record_meant, group_meant, AllWithin, GroupRead, SpecTaken, SpecTurned, SpecSays}
+use Rattle.spec_list.specs.Group.{record_meant, group_meant, AllWithin, GroupRead, SpecTaken, SpecSays}
 use Rattle.spec_list.specs.Table.{spec_from_record, blank, blanks, record_at}
 use Rattle.list.proofs.Records.{records-past, records-no, records-took}
 use Rattle.spec_list.proofs.SpecReadings.{spec-some, spec-ended, spec-err}

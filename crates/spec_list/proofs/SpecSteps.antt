@@ -1,10 +1,10 @@
 -- A spec at a place of its list: its questions in order, and what is told of it. Assumes nothing.
 use mathlib.Core.Path.{◌≡◌, sym, ap, ◌∙◌}
 use mathlib.Core.Option.{none}
-use Prim.Native.Nat.{ℕ, ◌+◌, ◌-◌, ◌<◌, ◌≤◌}
+use Prim.Native.Nat.{ℕ, ◌+◌, ◌<◌, ◌≤◌}
 use native.Mathlib.Omega.{arith}
 use borrow.Author.Tests.{lt-ltb, le-ltb}
-use lib.ListN.{length, take, drop}
+use lib.ListN.{length, drop}
 use Rattle.meaning.specs.Bytes.{Text}
 use Rattle.meaning.specs.Limits.{spec_count}
 use Rattle.meaning.specs.Spec.{accepted, refused, Spec, read_spec}
@@ -16,12 +16,11 @@ use Rattle.parse.proofs.Parts.{part_length}
 use Rattle.parse.proofs.Answers.{read-refused, read-accepted, read-within}
 use Rattle.std.specs.Prelude.{Option, None, Some, Result, Ok, Err}
 use Rattle.refusal.specs.declared.Refusal.{Refusal}
-use Rattle.refusal.specs.declared.Refusal.TheVariants as refusals
 use Rattle.refusal.specs.Numbers.{number_of}
 use Rattle.list.specs.declared.cursor.Record.{Record}
 use Rattle.list.specs.declared.stretch.Stretch.{Stretch}
 use Rattle.list.specs.Cursor.{step_at}
-use Rattle.spec_list.specs.Group.{shifted, SpecIn, SpecTaken, SpecTurned, SpecSays}
+use Rattle.spec_list.specs.Group.{shifted, SpecIn, SpecTaken, SpecTurned}
 use Rattle.list.proofs.Steps.{Taken, step-taken, step_end, step-refused}
 use Rattle.spec_list.proofs.Shifts.{spec-shifted, sides-shifted}
 

@@ -1,8 +1,6 @@
 -- What a group that was read tells: accepted where it is a group, else refused. Assumes nothing.
-use mathlib.Core.Path.{◌≡◌, refl, sym, ap}
+use mathlib.Core.Path.{◌≡◌, refl}
 use mathlib.Core.List.{List}
-use Prim.Native.Nat.{ℕ}
-use native.Mathlib.Omega.{arith}
 use Rattle.meaning.specs.Bytes.{Text}
 use Rattle.meaning.specs.Spec.{Answer, accepted, refused, Spec}
 use Rattle.std.specs.Prelude.{Result, Ok, Err}

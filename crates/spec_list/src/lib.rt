@@ -107,6 +107,7 @@ fn each_spec(op: u64, list: &[u8]) -> Result<Group, Refused>
     let mut specs = no_specs();
     let mut c = Cursor::new();
     let mut count: usize = 0;
+    // As it is: (d) a walk as in `list/src/items.rt`, for the reason given there.
     while let Some(r) = numbered(next_spec(op, list, c, count), count)? {
         specs[count] = record_of(r.value);
         c = r.next;
@@ -136,6 +137,7 @@ fn each_checked(op: u64, list: &[u8]) -> Result<usize, Refused>
 {
     let mut c = Cursor::new();
     let mut count: usize = 0;
+    // As it is: (d) a walk as in `list/src/items.rt`, for the reason given there.
     while let Some(r) = numbered(next_spec(op, list, c, count), count)? {
         c = r.next;
         count += 1;
@@ -144,6 +146,7 @@ fn each_checked(op: u64, list: &[u8]) -> Result<usize, Refused>
 }
 
 // Reads a spec list for an operation without keeping its specs: how many there are, or the refusal.
+// As it is: (d) two questions stand here and in `read_specs`; a function that asks them would have as many lines as it takes away.
 pub fn check_specs(op: u64, list: &[u8]) -> Result<usize, Refused>
     ensures { numbers_of result ≡ checked (read_specs op list.now) }
 {

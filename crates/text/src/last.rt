@@ -11,7 +11,7 @@ fn last_place(b: u8, s: &[u8]) -> Option<usize>
 }
 
 // b is one of sixteen bytes. All are asked without a branch, so that the compiler asks them at once.
-// As it is: `block.contains(&b)` is a call for each block, by which the reading of specs takes 11 percent more instructions.
+// As it is: (b) `block.contains(&b)` is a call for each block, by which the reading of specs takes 11 percent more instructions.
 fn is_among(b: u8, block: &[u8; 16]) -> bool
     ensures { result ≡ has_byte b block.now }
 {

@@ -1,12 +1,6 @@
 -- Each branch is one kind of name without a prefix. Assumes nothing.
-use Rattle.expand.proofs.Yields.{refs-length, yield-deeper, yield-itself, yield-object, yield-six}
+use Rattle.expand.proofs.Yields.{yield-deeper, yield-itself, yield-object, yield-six}
 use Rattle.expand.proofs.name_yield.Goals as goal
-
-pub slice_bounds-has_byte-count : goal.slice_bounds-has_byte-count
-slice_bounds-has_byte-count c = search refs-length
-
-pub slice_bounds-has_byte-start : goal.slice_bounds-has_byte-start
-slice_bounds-has_byte-start c = search refs-length
 
 pub returns-then-has_byte : goal.returns-then-has_byte
 returns-then-has_byte c = search yield-deeper

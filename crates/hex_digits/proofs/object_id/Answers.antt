@@ -1,5 +1,5 @@
 -- `hex_digits::object_id` meets its contract: the length is asked first, then every byte.
-use Rattle.std.proofs.Common.{◌≡◌, sym, ne_eqb, arith, length}
+use Rattle.std.proofs.Common.{ne_eqb, length}
 use Rattle.meaning.specs.Bytes.{object_id}
 use Rattle.meaning.specs.Limits.{id_digits}
 use Rattle.text.proofs.Rows.{row}
