@@ -23,7 +23,7 @@ fn show<W: Write, E: Write>(output: &mut W, errors: &mut E, input: &[u8])
     let mut specs = [0u8; SPEC_LIST_BYTES];
     let mut items = [0u8; ITEM_LIST_BYTES];
     let g = gather_or_tell(errors, input, &mut specs, &mut items);
-    if g.reason == 0 {
+    if g.refused.is_none() {
         finish(errors, show_pairs(output, input));
     }
 }

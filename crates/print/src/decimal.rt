@@ -28,6 +28,7 @@ fn digits_size(k: usize, n: usize) -> usize
 }
 
 // How many digits a number has.
+#[tactic(auto, unfolding(meaning::specs::Deliveries::decimal))]
 pub(crate) fn decimal_size(n: usize) -> usize
     ensures { (result ≡ length (decimal n)) × (result ≤ decimal_digits) }
 {
@@ -50,6 +51,7 @@ pub fn put_digits(out: &mut [u8], at: usize, k: usize, n: usize) -> usize
 }
 
 // Writes a number, and answers the place after it.
+#[tactic(auto, unfolding(meaning::specs::Deliveries::decimal))]
 pub(crate) fn put_decimal(out: &mut [u8], at: usize, n: usize) -> usize
     requires { at + length (decimal n) ≤ length out.old }
     ensures { (out.new ≡ splice out.old at (decimal n)) × (result ≡ at + length (decimal n)) }

@@ -1,8 +1,8 @@
 // Replays the recorded reports on two specs, which standard input brings, and says how many of them are ours.
 #![tactic(auto)]
 
-use replaying::{Kind, replay};
+use replaying::{Pairs, replay};
 
 fn main(rt: HostRuntime) {
-    replay(&mut rt.stdin(), &mut rt.stdout(), Kind::Pairs);
+    replay(&mut rt.stdin(), &mut rt.stdout(), &Pairs);
 }

@@ -6,10 +6,10 @@ use mathlib.Core.List.{List, [], ◌∷◌}
 use native.Mathlib.Omega.{arith}
 use lib.Dec.{eqb}
 use lib.ListN.{length, take, drop, get_or, length-drop}
-use lib.Seq.{drop-drop, take-length, get_or-drop, take_all}
+use lib.Seq.{drop-drop, get_or-drop, take_all}
 use Rattle.meaning.specs.Bytes.{Text, ◌and◌, begins, numbered_from}
 use Rattle.text.specs.Place.{first_at}
-use Rattle.text.proofs.Rests.{rest-cons, rest_end}
+use Rattle.text.proofs.Rests.{rest_end}
 use Rattle.text.proofs.Scans.{byte-is, byte-other}
 use Rattle.text_lists.specs.Line.{before_first, lines_of, lines_left, LineAt}
 
@@ -129,10 +129,6 @@ module _ (s : Text) (at feed : ℕ) (h : at < length s) (e : feed ≡ at + first
         ends = omega arith;
         within = omega arith;
       }
-
--- no line is left
-pub line-none : (s : Text) (at : ℕ) → length s ≤ at → lines_of (drop at s) ≡ []
-line-none s at h = ap lines_of (rest_end s at h)
 
 -- each line has at most so many bytes
 abbrev Short : ℕ → List Text → Type 0

@@ -6,6 +6,7 @@ ghost use Rattle.text_lists.specs.Line.{lines_of, lines_left, LineAt, blank_byte
 
 // What a line holds: a spec or a name, which is the rest of the line from a place on, or nothing; a byte order mark stands before anything
 // else.
+// As it is: `Nothing` is one of several cases; an Option around the others would add a layer to each match, as in `Some(Line::Fetch(start))`.
 #[derive(Clone, Copy)]
 pub enum Line {
     Nothing,
@@ -59,7 +60,6 @@ impl<'a> Lines<'a> {
     pub fn of(text: &'a [u8]) -> Lines<'a>
         ensures { lines_left result.passed result.rest.now ≡ numbered_from 1 (lines_of text.now) }
     {
-        let _ = text.len();
         Lines {
             rest: text,
             passed: 0,
@@ -91,37 +91,25 @@ impl<'a> Iterator for Lines<'a> {
 }
 
 // A space or a tab.
+#[tactic(auto, using(std::proofs::lemmas::Bool::Decides::nat_tests))]
 fn is_blank(b: u8) -> bool
     ensures { result ≡ blank_byte b }
 {
-    if b == b' ' {
-        return true;
-    }
-    b == b'\t'
+    matches!(b, b' ' | b'\t')
 }
 
 // The line has nothing but spaces and tabs.
 fn all_blank(line: &[u8]) -> bool
     ensures { result ≡ every blank_byte line.now }
 {
-    let mut i = 0;
-    while i < line.len() {
-        if !is_blank(line[i]) {
-            return false;
-        }
-        i += 1;
-    }
-    true
+    line.iter().all(|b| is_blank(*b))
 }
 
 // What a line holds.
 pub fn classify(line: &[u8]) -> Line
     ensures { TellsLine line.now result }
 {
-    if all_blank(line) {
-        return Line::Nothing;
-    }
-    if compare::begins(b"#", line) {
+    if all_blank(line) || compare::begins(b"#", line) {
         return Line::Nothing;
     }
     if compare::begins(b"fetch ", line) {

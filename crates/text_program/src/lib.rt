@@ -64,6 +64,7 @@ pub fn read_text<R: Read, E: Write>(
 }
 
 // Tells which line is refused, and why, and answers how many bytes are told.
+// As it is: the reason is any number, as `refusal_words` has words for any; a `Reason` would ask more of callers.
 pub fn tell_refused<E: Write>(errors: &mut E, number: usize, reason: u64, line: &[u8]) -> usize
     requires { length line.now ≤ program_bytes }
     ensures { result ≡ length (refused_line number reason line.now) }
@@ -75,18 +76,18 @@ pub fn tell_refused<E: Write>(errors: &mut E, number: usize, reason: u64, line: 
 }
 
 // The lists that the lines of a text give, as `gather` writes them; the line that is refused is told.
-pub fn gather_or_tell<E: Write>(
+pub fn gather_or_tell<'a, E: Write>(
     errors: &mut E,
-    input: &[u8],
+    input: &'a [u8],
     specs: &mut [u8],
     items: &mut [u8],
-) -> Gathered
+) -> Gathered<'a>
     requires { (length input.now ≤ program_bytes) × (spec_list_bytes ≤ length specs.old) × (item_list_bytes ≤ length items.old) }
     ensures { Gathers input.now (gathered input.now) specs.old items.old specs.new items.new result }
 {
     let g = gather(input, specs, items);
-    if g.reason != 0 {
-        tell_refused(errors, g.line, g.reason, &input[g.start..g.end]);
+    if let Some(l) = g.refused {
+        tell_refused(errors, l.number, l.reason.number(), l.text);
     }
     g
 }

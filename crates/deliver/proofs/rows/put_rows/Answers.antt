@@ -1,4 +1,3 @@
-use Rattle.row_list.proofs.RowWalks.{rows-fewer}
 use Rattle.deliver.proofs.Walks.{row-stands, written-starts, written-room, written-more, written-put, written-ends}
 use Rattle.deliver.proofs.rows.put_rows.Goals as goal
 
@@ -7,9 +6,6 @@ loop-r-init c = search written-starts
 
 pub put_row-i-requires : goal.put_row-i-requires
 put_row-i-requires c = (search row-stands, search written-room)
-
-pub loop-r-smaller : goal.loop-r-smaller
-loop-r-smaller c = search rows-fewer
 
 pub loop-r-preserved : goal.loop-r-preserved
 loop-r-preserved c = search written-more

@@ -1,6 +1,6 @@
 use Rattle.std.proofs.Common.{rules}
 use Rattle.std.proofs.lemmas.Result.{on_ok_weaker}
-use Rattle.text_program.proofs.Saying.{printed-none, printed-more, printed-all}
+use Rattle.text_program.proofs.Saying.{printed-more, printed-all}
 use Rattle.text_program.proofs.output.say_text.Goals as goal
 
 pub loop-at-preserved : goal.loop-at-preserved

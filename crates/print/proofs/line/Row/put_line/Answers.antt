@@ -1,6 +1,6 @@
--- `print::line::put_line` meets its contract: the numbers, the source and the destination, one after the other.
+-- `print::line::Row::put_line` meets its contract: the numbers, the source and the destination, one after the other.
 use Rattle.print.proofs.Lines.{start-room, source-room, destination-room, line-put, line-ends}
-use Rattle.print.proofs.line.put_line.Goals as goal
+use Rattle.print.proofs.line.Row.put_line.Goals as goal
 
 pub put_start-i-requires : goal.put_start-i-requires
 put_start-i-requires c = search start-room

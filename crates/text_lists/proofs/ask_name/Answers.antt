@@ -1,6 +1,6 @@
--- `text_lists::name_reason` meets its contract: 14, then 15, then 12.
+-- `text_lists::ask_name` meets its contract: 14, then 15, then 12.
 use Rattle.text_lists.proofs.Reasons.{name-many, name-long, name-asked}
-use Rattle.text_lists.proofs.name_reason.Goals as goal
+use Rattle.text_lists.proofs.ask_name.Goals as goal
 
 pub returns-then-count-ge-ITEM_COUNT : goal.returns-then-count-ge-ITEM_COUNT
 returns-then-count-ge-ITEM_COUNT c = search name-many
