@@ -77,11 +77,7 @@ fn next_record(list: &[u8], at: usize) -> Stretch
     let c = Cursor { at };
     match c.next(list) {
         Ok(Some(r)) => r.value,
-        Ok(None) => Stretch {
-            at: list.len(),
-            len: 0,
-        },
-        Err(_) => Stretch {
+        Ok(None) | Err(_) => Stretch {
             at: list.len(),
             len: 0,
         },
@@ -126,8 +122,7 @@ fn side_digits(specs: &[u8], start: usize, len: usize, src: Side) -> Result<View
 {
     match src {
         Side::Part(at, n) => digits(specs, start, at, n),
-        Side::Absent => Err(OUTSIDE),
-        Side::Head => Err(OUTSIDE),
+        Side::Absent | Side::Head => Err(OUTSIDE),
     }
 }
 
