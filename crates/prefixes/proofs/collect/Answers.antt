@@ -1,4 +1,4 @@
-use Rattle.prefixes.proofs.Adding.{collecting-starts, collecting-room, collecting-within, collecting-more, collecting-whole}
+use Rattle.prefixes.proofs.Adding.{collecting-starts, collecting-room, collecting-within, collecting-more}
 use borrow.Author.Rules.{rules}
 use Rattle.prefixes.proofs.collect.Goals as goal
 
@@ -10,6 +10,3 @@ add_spec-count-requires c = (search rules, search collecting-within, search coll
 
 pub loop-q-preserved : goal.loop-q-preserved
 loop-q-preserved c = search collecting-more
-
-pub returns : goal.returns
-returns c = search collecting-whole

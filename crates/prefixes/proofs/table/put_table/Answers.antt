@@ -1,9 +1,6 @@
-use Rattle.prefixes.proofs.Tables.{entry_in, listed-starts, listed-room, listed_more, listed-put}
+use Rattle.prefixes.proofs.Tables.{entry_in, listed-room, listed_more, listed-put}
 use borrow.Author.Rules.{rules}
 use Rattle.prefixes.proofs.table.put_table.Goals as goal
-
-pub loop-e-init : goal.loop-e-init
-loop-e-init c = search listed-starts
 
 pub put-at-requires : goal.put-at-requires
 put-at-requires c = (search entry_in, search rules, search listed-room)
