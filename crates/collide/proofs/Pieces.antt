@@ -1,13 +1,13 @@
 -- A literal in two pieces: what leads it and what is led, and the comparison with another and with a pattern. Assumes nothing.
-use Prim.Native.Nat.{ℕ, suc, ◌+◌, ◌-◌, ◌≤◌, ◌<◌}
+use Prim.Native.Nat.{ℕ, ◌+◌, ◌-◌, ◌≤◌}
 use native.Mathlib.Omega.{arith}
 use mathlib.Core.Path.{◌≡◌, refl, sym, ap, ◌∙◌}
 use mathlib.Core.Bool.{Bool, true, false, cond}
 use mathlib.Core.List.{[], ◌∷◌, ◌++◌, append-nil}
 use mathlib.Core.Logic.{◌⊎◌, inl, inr}
-use mathlib.Core.Option.{Option, none, some}
+use mathlib.Core.Option.{none, some}
 use lib.Dec.{eqb}
-use lib.ListN.{length, take, drop, length-drop}
+use lib.ListN.{length, take, drop}
 use lib.Seq.{drop-length}
 use Rattle.meaning.specs.Bytes.{Text, ◌and◌, same, begins, present, lower, object_id}
 use Rattle.meaning.specs.Limits.{spec_list_bytes, id_digits}
@@ -63,12 +63,9 @@ module _ (l : Lead) (t a b : Text) (ea : a ≡ lead_bytes l) (eb : b ≡ body_by
   pub literal-led : (p q : Text) → literal_in p q (a ++ b) ≡ literal_in p q (led_text l t)
   literal-led p q = ap (literal_in p q) pieces-led
 
-  -- against another literal
-  pub first-led : (u : Text) → cond (same (a ++ b) u) (some (a ++ b)) none ≡ cond (same (led_text l t) u) (some (led_text l t)) none
-  first-led u = rw pieces-led
-
-  pub second-led : (u : Text) → cond (same u (a ++ b)) (some u) none ≡ cond (same u (led_text l t)) (some u) none
-  second-led u = rw pieces-led
+-- two literals
+pub both-led : (l m : Lead) (t u a b c d : Text) → a ≡ lead_bytes l → b ≡ body_bytes l t → c ≡ lead_bytes m → d ≡ body_bytes m u → cond (same (a ++ b) (c ++ d)) (some (a ++ b)) none ≡ cond (same (led_text l t) (led_text m u)) (some (led_text l t)) none
+both-led l m t u a b c d ea eb ec ed = rw (pieces-led l t a b ea eb, pieces-led m u c d ec ed)
 
 -- ---- two pieces and two others
 

@@ -10,8 +10,7 @@ use Rattle.meaning.specs.Bytes.{Text}
 use Rattle.meaning.specs.Limits.{spec_bytes, spec_list_bytes}
 use Rattle.meaning.specs.Spec as meaning
 use Rattle.meaning.specs.Spec.{Answer, accepted, refused, is_negative}
-use Rattle.meaning.specs.Match.{Form, form_of}
-use Rattle.meaning.specs.Buffers.{Outputs}
+use Rattle.meaning.specs.Match.{form_of}
 use Rattle.meaning.specs.Collide as collide
 use Rattle.meaning.specs.Collide.{as_written, shared_by, collision, collide_bytes}
 use Rattle.parse.specs.declared.types.Side.{Side}
@@ -27,7 +26,7 @@ use Rattle.refspec.specs.Instructions.{side_text}
 use Rattle.refspec.proofs.Texts.{side-short}
 use Rattle.matcher.specs.declared.types.Target.{Target}
 use Rattle.matcher.specs.declared.types.Target.TheVariants as target
-use Rattle.matcher.specs.Matching.{target_meant, Completes, StarIn, TargetWithin}
+use Rattle.matcher.specs.Matching.{target_meant, Completes, TargetWithin}
 use Rattle.matcher.specs.Sides.{TargetStar, TargetFor}
 use Rattle.collide.specs.Targets.{form_written, TargetIn, Writes, report_after}
 

@@ -1,5 +1,5 @@
 -- Where a spec writes, as a text and a target of it, and room for the digits of a literal that is led.
-use Rattle.std.specs.Prelude.{ℕ, suc, ◌≤◌, ◌≡◌, [], ◌∷◌, length, take, drop, replicate}
+use Rattle.std.specs.Prelude.{suc, ◌≤◌, ◌≡◌, [], ◌∷◌, length, take, drop, replicate}
 use Rattle.std.proofs.Math.Option.{Option, none, some}
 use Rattle.meaning.specs.Bytes.{Text, lower}
 use Rattle.meaning.specs.Limits.{spec_list_bytes, id_digits}

@@ -16,6 +16,7 @@ use limits::ID_DIGITS;
 use matcher::types::Lead;
 
 // The digits of an object id in lower case.
+// As it is: there is no heap, so they stand in an array.
 fn lower_digits(t: &[u8]) -> [u8; ID_DIGITS]
     requires { object_id t.now ≡ true }
     ensures { result ≡ lower t.now }
@@ -78,22 +79,20 @@ fn two_pairs(a: &[u8], b: &[u8], c: &[u8], d: &[u8], out: &mut [u8]) -> Collisio
     }
 }
 
-// A literal in two pieces, and another.
-fn pair_and_literal(a: &[u8], b: &[u8], t: &[u8], lead: Lead, out: &mut [u8]) -> Collision
-    requires { (length a.now ≤ spec_list_bytes) × (length b.now ≤ spec_list_bytes) × DigitsOf t.now lead }
-    ensures { MeetsMaybe (accepted (cond (same (a.now ++ b.now) (led_text lead t.now)) (some (a.now ++ b.now)) none ∷ [])) out.old out.new result.refusal result.which result.collides result.length }
-{
-    let digits = digit_room(lead, t);
-    two_pairs(a, b, lead.bytes(), body_bytes(lead, t, &digits), out)
-}
-
 // Two literals: they collide where both are completed to one text.
 pub(crate) fn two_literals(t: &[u8], lead: Lead, u: &[u8], other: Lead, out: &mut [u8]) -> Collision
     requires { DigitsOf t.now lead × DigitsOf u.now other × (length t.now ≤ spec_list_bytes) }
     ensures { MeetsMaybe (accepted (cond (same (led_text lead t.now) (led_text other u.now)) (some (led_text lead t.now)) none ∷ [])) out.old out.new result.refusal result.which result.collides result.length }
 {
     let digits = digit_room(lead, t);
-    pair_and_literal(lead.bytes(), body_bytes(lead, t, &digits), u, other, out)
+    let others = digit_room(other, u);
+    two_pairs(
+        lead.bytes(),
+        body_bytes(lead, t, &digits),
+        other.bytes(),
+        body_bytes(other, u, &others),
+        out,
+    )
 }
 
 // A literal in two pieces, and a pattern p whose star stands at a place.

@@ -1,15 +1,12 @@
 -- Full destinations. Assumes nothing.
-use mathlib.Core.Path.{◌≡◌, ap, ◌∙◌}
+use mathlib.Core.Path.{◌≡◌}
 use mathlib.Core.Logic.{◌⊎◌, inl, inr}
-use mathlib.Core.Bool.{Bool, true}
-use Prim.Native.Nat.{ℕ, ◌+◌, ◌-◌}
-use lib.ListN.{take, drop}
+use mathlib.Core.Bool.{true}
 use Rattle.meaning.specs.Bytes.{Text, if_given}
 use Rattle.meaning.specs.Validation.{is_full}
 use Rattle.parse.specs.declared.types.Side.{Side}
-use Rattle.parse.specs.declared.types.Side.TheVariants.{Absent, Part, Head}
+use Rattle.parse.specs.declared.types.Side.TheVariants.{Absent, Head}
 use Rattle.parse.specs.Places.{side_meant}
-use Rattle.parse.proofs.Parts.{part_of}
 
 -- the arms of a `match` on a destination
 module _ (s : Text) (d : Side) where

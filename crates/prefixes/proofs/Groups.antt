@@ -7,7 +7,7 @@ use mathlib.Core.List.{List, [], ◌∷◌}
 use mathlib.Core.Option.{Option, none, some}
 use borrow.Author.Tests.{leb-true}
 use lib.Dec.{leb}
-use lib.ListN.{length, take}
+use lib.ListN.{length, take, length-take}
 use Rattle.meaning.specs.Bytes.{Text}
 use Rattle.meaning.specs.Limits.{spec_list_bytes, spec_count}
 use Rattle.meaning.specs.Spec.{Answer, accepted, refused, Spec}
@@ -25,12 +25,13 @@ use Rattle.list.specs.declared.refused.Refused.{Refused}
 use Rattle.spec_list.specs.declared.Group.{Group}
 use Rattle.spec_list.specs.Group.{group_meant, AllWithin, GroupRead}
 use Rattle.spec_list.proofs.Told.{GroupPassed, group-passed, group-failed}
+use Rattle.prefixes.specs.declared.entry.Entry.{Entry}
 use Rattle.prefixes.specs.Table.{table_texts}
 use Rattle.prefixes.specs.Group.{group_texts, group_prefixes, Collected, MeetsPrefixes}
 use Rattle.prefixes.proofs.Distinct.{distinct-prefixes}
 
 -- the list of a table is that of the group whose texts it holds
-pub table_meets : (op : ℕ) (specs : Text) (group : List Spec) (table : List ℕ) (c : ℕ) (entry exit : Text) (refusal record_number size : ℕ) → Collected op specs group table c → MeetsOne (accepted (some (record_bytes (table_texts specs table c)) ∷ [])) entry exit refusal record_number size → MeetsOne (accepted (some (record_bytes (group_texts op group)) ∷ [])) entry exit refusal record_number size
+pub table_meets : (op : ℕ) (specs : Text) (group : List Spec) (table : List Entry) (c : ℕ) (entry exit : Text) (refusal record_number size : ℕ) → Collected op specs group table c → MeetsOne (accepted (some (record_bytes (table_texts specs (take c table))) ∷ [])) entry exit refusal record_number size → MeetsOne (accepted (some (record_bytes (group_texts op group)) ∷ [])) entry exit refusal record_number size
 table_meets op specs group table c entry exit refusal record_number size x m = rw x.holds at m
 
 -- a group's texts are its prefix list
@@ -82,8 +83,8 @@ module _ (op : ℕ) (specs : Text) (v : Result Group Refused) (r : GroupRead spe
     passed = group-passed specs v (read_specs op specs) r g z
 
     -- an accepted one has at most so many specs
-    pub group-count : g.count ≤ spec_count
-    group-count = passed.is.count-within
+    pub group-count : length (take g.count g.specs) ≤ spec_count
+    group-count = omega (arith, passed.is.count-within, length-take g.count g.specs)
 
     -- whose sides stand within it
     pub group-within : AllWithin (length specs) (take g.count g.specs)

@@ -1,6 +1,5 @@
 -- A row read on after each of its parts, and its destination as a text.
 use Rattle.std.specs.Prelude.{ℕ, ◌+◌, ◌≤◌, ◌≡◌, [], length}
-use Rattle.std.proofs.Math.Option.{Option}
 use Rattle.meaning.specs.Bytes.{Text, or_empty}
 use Rattle.meaning.specs.Number.{Step, took, no, Reader, ◌>>=◌, give, read_number, read_text}
 use Rattle.meaning.specs.Rows.{Row, read_destination}

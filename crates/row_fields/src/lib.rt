@@ -12,6 +12,7 @@ use list::stretch::Stretch;
 use parse::types::Side;
 
 // A row: its numbers, its source as a place in the list, and its destination, which may be absent.
+// As it is: the kind is what the list says, which no question has passed yet; one that is neither 0 nor 1 is refused above this crate.
 #[derive(Clone, Copy)]
 pub struct RowPlace {
     pub item: usize,
@@ -42,7 +43,8 @@ fn destination_after(s: &[u8], at: usize, n: usize) -> Option<Record<Side>>
     })
 }
 
-// The destination whose number stands at a place, if it is well formed.
+// The destination whose number stands at a place, if it is well formed. Inlined with the reading of a row.
+#[inline(always)]
 fn read_destination(s: &[u8], at: usize) -> Option<Record<Side>>
     ensures { DestinationSays s.now at (read_destination (drop at s.now)) result }
 {
@@ -50,7 +52,8 @@ fn read_destination(s: &[u8], at: usize) -> Option<Record<Side>>
     destination_after(s, n.next, n.value)
 }
 
-// The fields of the row that begins at a place, if it is well formed.
+// The fields of the row that begins at a place, if it is well formed. Inlined, so that whoever asks for one of them passes over the others.
+#[inline(always)]
 pub fn read_front(s: &[u8], at: usize) -> Option<Record<RowPlace>>
     ensures { (result ≡ front_at s.now at) × FrontSays s.now (read_front (drop at s.now)) result }
 {

@@ -30,7 +30,8 @@ fn row_passes(list: &[u8], specs: usize, row: RowPlace) -> bool
     row.spec < specs && (row.kind == 0 || row.kind == 1 && object_digits(row.src.of(list)))
 }
 
-// The row that stands at a cursor, under so many specs.
+// The row that stands at a cursor, under so many specs. Inlined, since else all its fields are copied for each row.
+#[inline(always)]
 pub fn next_row(c: Cursor, list: &[u8], specs: usize) -> Step<RowPlace>
     ensures { (result ≡ row_step_at specs list.now c.at) × RowSays specs list.now c.at result }
 {
@@ -46,7 +47,8 @@ pub fn next_row(c: Cursor, list: &[u8], specs: usize) -> Step<RowPlace>
     Ok(Some(r))
 }
 
-// The row that stands at a cursor of a row list that was read, where none is refused; none at its end.
+// The row that stands at a cursor of a row list that was read, where none is refused; none at its end. Inlined as well.
+#[inline(always)]
 pub fn row_at(c: Cursor, list: &[u8], specs: usize) -> Option<Record<RowPlace>>
     ensures { (result ≡ found_row (row_step_at specs list.now c.at)) × RowHere specs list.now c.at result }
 {
@@ -54,6 +56,7 @@ pub fn row_at(c: Cursor, list: &[u8], specs: usize) -> Option<Record<RowPlace>>
 }
 
 // The rows of a row list, one after the other.
+// As it is: a `for` needs an iterator of this crate's own, whose step and law are longer than the loops over `next_row` and `row_at`.
 fn each_row(list: &[u8], specs: usize) -> Result<usize, Refused>
     requires { length list.now ≤ row_list_bytes }
     ensures { numbers_of result ≡ checked (records (row_record specs) 0 list.now) }

@@ -24,7 +24,7 @@ use Rattle.row_list.specs.Lists.{rows_in, RowsRead}
 use Rattle.conflicts.specs.ConflictBytes.{conflicts_bytes, put_if_room}
 use Rattle.conflicts.proofs.Wholes.{no_bytes, none-put, short-left, whole-put, bytes-exactly}
 use Rattle.validate.specs.declared.Validation.{Validation}
-use Rattle.validate.specs.Answers.{validation_refused, short_of}
+use Rattle.validate.specs.Answers.{nothing_told, validation_refused, short_of}
 
 -- rows that were judged by the size of their conflicts
 module _ (rows : List Row) (size : ℕ) (es : size ≡ length (conflicts_bytes rows)) where
@@ -50,10 +50,10 @@ module _ (rows : List Row) (size : ℕ) (es : size ≡ length (conflicts_bytes r
           let q : o ≡ d = eo ∙ sym (short-left rows size es d h) in
           rw (q, e) (meets-two-short-first (accepted (verdict_bytes (verdict rows))) d f d f (conflicts_bytes rows) none 17 0 0 size 0 1 (ap accepted conflicting-bytes) (omega (arith, es)) refl refl refl refl refl es refl refl)
 
-      pub conflicts-told : size ≤ length d → MeetsTwo (accepted (verdict_bytes (verdict rows))) d f o f 0 0 1 size 0 0
-      conflicts-told h =
+      pub conflicts-told : size ≤ length d → (n : Validation) → n ≡ nothing_told → MeetsTwo (accepted (verdict_bytes (verdict rows))) d f o f n.refusal n.«record» 1 size n.fixes_length n.buffer
+      conflicts-told h n e =
           let q : o ≡ splice d 0 (conflicts_bytes rows) = eo ∙ sym (whole-put rows size es d h (splice d 0 (conflicts_bytes rows)) refl) in
-          meets-two-conflicts (accepted (verdict_bytes (verdict rows))) d f o f (conflicts_bytes rows) 0 0 1 size 0 0 (ap accepted conflicting-bytes) (omega (arith, es)) (q ∙ splice-start d (conflicts_bytes rows)) refl refl refl refl es refl refl
+          rw e (meets-two-conflicts (accepted (verdict_bytes (verdict rows))) d f o f (conflicts_bytes rows) 0 0 1 size 0 0 (ap accepted conflicting-bytes) (omega (arith, es)) (q ∙ splice-start d (conflicts_bytes rows)) refl refl refl refl es refl refl)
 
 -- rows without conflicts
 module _ (rows : List Row) (calm : conflicts rows ≡ []) where
@@ -71,10 +71,10 @@ module _ (rows : List Row) (calm : conflicts rows ≡ []) where
       fixes-short g w e =
           rw e (meets-two-short-second (accepted (verdict_bytes (verdict rows))) d f d f (row_list_of (keep is_kept rows)) (each (each rows fix_of) fix_bytes) 17 0 0 fixed 0 2 (ap accepted passing-bytes) (omega (arith, ek)) (omega (arith, ef)) refl refl refl refl refl ef refl refl)
 
-    pub passes-told : length (row_list_of (keep is_kept rows)) ≤ length d → length (each (each rows fix_of) fix_bytes) ≤ length f → (o p : Text) → o ≡ splice d 0 (row_list_of (keep is_kept rows)) → p ≡ splice f 0 (each (each rows fix_of) fix_bytes) → MeetsTwo (accepted (verdict_bytes (verdict rows))) d f o p 0 0 0 kept fixed 0
-    passes-told h g o p eo ep =
-        meets-two-passes (accepted (verdict_bytes (verdict rows))) d f o p (row_list_of (keep is_kept rows)) (each (each rows fix_of) fix_bytes) 0 0 0 kept fixed 0 (ap accepted passing-bytes) h g
-        (eo ∙ splice-start d (row_list_of (keep is_kept rows))) (ep ∙ splice-start f (each (each rows fix_of) fix_bytes)) refl refl refl ek ef refl
+    pub passes-told : length (row_list_of (keep is_kept rows)) ≤ length d → length (each (each rows fix_of) fix_bytes) ≤ length f → (o p : Text) → o ≡ splice d 0 (row_list_of (keep is_kept rows)) → p ≡ splice f 0 (each (each rows fix_of) fix_bytes) → (n : Validation) → n ≡ nothing_told → MeetsTwo (accepted (verdict_bytes (verdict rows))) d f o p n.refusal n.«record» n.conflicts kept fixed n.buffer
+    passes-told h g o p eo ep n e =
+        rw e (meets-two-passes (accepted (verdict_bytes (verdict rows))) d f o p (row_list_of (keep is_kept rows)) (each (each rows fix_of) fix_bytes) 0 0 0 kept fixed 0 (ap accepted passing-bytes) h g
+        (eo ∙ splice-start d (row_list_of (keep is_kept rows))) (ep ∙ splice-start f (each (each rows fix_of) fix_bytes)) refl refl refl ek ef refl)
 
 -- what the lists are read as
 specs-turned : (op : ℕ) (specs rows : Text) (n : ℕ) (r : Option ℕ) → read_specs op specs ≡ refused n r → validated op specs rows ≡ refused n r
@@ -90,20 +90,20 @@ unfolding validated verdict_on
 both_read op specs rows group list e f = rw (e, f)
 
 module _ (op : ℕ) (specs rows d f : Text) (g : Result ℕ Refused) (eg : numbers_of g ≡ checked (read_specs op specs)) where
-  pub specs-refused : (x : Refused) → g ≡ Err x → (k : ℕ) → k ≡ number_of x.refusal → (w : Validation) → w ≡ validation_refused k x.«record» → MeetsTwo (validated op specs rows) d f d f w.refusal w.«record» w.conflicts w.length w.fixes_length w.buffer
-  specs-refused x z k ek w e =
+  pub specs-refused : (x : Refused) → g ≡ Err x → (w : Validation) → w ≡ validation_refused x → MeetsTwo (validated op specs rows) d f d f w.refusal w.«record» w.conflicts w.length w.fixes_length w.buffer
+  specs-refused x z w e =
       let q = specs-failed op specs g eg x z in
-      rw (e, ek) (meets-two-refused (validated op specs rows) d f d f (number_of x.refusal) q.carried (number_of x.refusal) x.«record» 0 0 0 0 (specs-turned op specs rows (number_of x.refusal) q.carried q.answer) refl refl refl q.number refl refl refl refl)
+      rw e (meets-two-refused (validated op specs rows) d f d f (number_of x.refusal) q.carried (number_of x.refusal) x.«record» 0 0 0 0 (specs-turned op specs rows (number_of x.refusal) q.carried q.answer) refl refl refl q.number refl refl refl refl)
 
   module _ (n : ℕ) (zg : g ≡ Ok n) (c : Result ℕ Refused) (ec : numbers_of c ≡ checked (read_rows n rows)) where
     specs-read : Passed (read_specs op specs) n
     specs-read = specs-passed op specs g eg n zg
 
-    pub rows-refused : (x : Refused) → c ≡ Err x → (k : ℕ) → k ≡ number_of x.refusal → (w : Validation) → w ≡ validation_refused k x.«record» → MeetsTwo (validated op specs rows) d f d f w.refusal w.«record» w.conflicts w.length w.fixes_length w.buffer
-    rows-refused x z k ek w e =
+    pub rows-refused : (x : Refused) → c ≡ Err x → (w : Validation) → w ≡ validation_refused x → MeetsTwo (validated op specs rows) d f d f w.refusal w.«record» w.conflicts w.length w.fixes_length w.buffer
+    rows-refused x z w e =
         let q = rows-failed n rows c ec x z in
         let a : read_rows (length specs-read.members) rows ≡ refused (number_of x.refusal) q.carried = rw (← specs-read.counted) q.answer in
-        rw (e, ek)
+        rw e
         (meets-two-refused (validated op specs rows) d f d f (number_of x.refusal) q.carried (number_of x.refusal) x.«record» 0 0 0 0
         (rows-turned op specs rows specs-read.members (number_of x.refusal) q.carried specs-read.answer a) refl refl refl q.number refl refl refl refl)
 

@@ -8,17 +8,20 @@ ghost use Rattle.meaning.specs.Validation.{conflicts, is_kept, fix_of, fix_bytes
 ghost use Rattle.meaning.specs.Entries.{validated};
 ghost use Rattle.meaning.specs.Buffers.{MeetsTwo};
 ghost use Rattle.row_list.specs.Lists.{rows_in, RowsRead};
-ghost use Rattle.validate.specs.Answers.{validation_refused, short_of};
+ghost use Rattle.validate.specs.Answers.{nothing_told, validation_refused, short_of};
 ghost use Rattle.validate.specs.Verdicts.{TellsVerdict};
 
 use conflicts::put_conflicts;
 use kept_rows::{measure, put_rows};
+use list::refused::Refused;
+use refusal::Refusal;
 use row_list::read_rows;
 use spec_list::check_specs;
 
 // What a call tells beside its buffers: a refusal's number or 0; the record that it carries; 1 where the first buffer holds conflicts; how
 // many bytes it holds, or beside 17 the length for the short buffer; how many the fix buffer holds; and beside 17 the short buffer, 1 the
 // first or 2 that for fixes. A field without a meaning is 0.
+// As it is: C reads this record, whose fields are numbers of 64 bits.
 #[repr(C)]
 #[derive(Clone, Copy)]
 pub struct Validation {
@@ -30,13 +33,13 @@ pub struct Validation {
     pub buffer: u64,
 }
 
-// A call that is refused for what it was lent.
-fn refused(refusal: u64, record: u64) -> Validation
-    ensures { result ≡ validation_refused refusal «record» }
+// A call that tells nothing.
+fn nothing() -> Validation
+    ensures { result ≡ nothing_told }
 {
     Validation {
-        refusal,
-        record,
+        refusal: 0,
+        record: 0,
         conflicts: 0,
         length: 0,
         fixes_length: 0,
@@ -44,17 +47,27 @@ fn refused(refusal: u64, record: u64) -> Validation
     }
 }
 
-// A call whose buffer is too short for so many bytes.
+// A call that is refused for what it was lent.
+fn refused(e: Refused) -> Validation
+    ensures { result ≡ validation_refused e }
+{
+    Validation {
+        refusal: e.refusal.number(),
+        record: e.record,
+        ..nothing()
+    }
+}
+
+// A call whose buffer, 1 the first or 2 that for fixes, is too short for so many bytes.
+// As it is: C reads which of them it is as a number.
 fn short(buffer: u64, needed: usize) -> Validation
     ensures { result ≡ short_of buffer needed }
 {
     Validation {
-        refusal: 17,
-        record: 0,
-        conflicts: 0,
+        refusal: Refusal::BufferTooShort.number(),
         length: needed as u64,
-        fixes_length: 0,
         buffer,
+        ..nothing()
     }
 }
 
@@ -65,12 +78,9 @@ fn written(rows: &[u8], specs: usize, out: &mut [u8], fixes: &mut [u8]) -> Valid
 {
     let n = put_rows(out, fixes, rows, specs);
     Validation {
-        refusal: 0,
-        record: 0,
-        conflicts: 0,
         length: n.kept as u64,
         fixes_length: n.fixed as u64,
-        buffer: 0,
+        ..nothing()
     }
 }
 
@@ -115,12 +125,9 @@ fn judged(rows: &[u8], specs: usize, count: usize, out: &mut [u8], fixes: &mut [
         return short(1, size);
     }
     Validation {
-        refusal: 0,
-        record: 0,
         conflicts: 1,
         length: size as u64,
-        fixes_length: 0,
-        buffer: 0,
+        ..nothing()
     }
 }
 
@@ -130,11 +137,11 @@ pub fn validated(op: u64, specs: &[u8], rows: &[u8], out: &mut [u8], fixes: &mut
 {
     let n = match check_specs(op, specs) {
         Ok(n) => n,
-        Err(e) => return refused(e.refusal.number(), e.record),
+        Err(e) => return refused(e),
     };
     let count = match read_rows(rows, n) {
         Ok(count) => count,
-        Err(e) => return refused(e.refusal.number(), e.record),
+        Err(e) => return refused(e),
     };
     judged(rows, n, count, out, fixes)
 }

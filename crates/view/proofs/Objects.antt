@@ -3,7 +3,7 @@ use mathlib.Core.Path.{◌≡◌, refl, sym, ap, ◌∙◌}
 use mathlib.Core.Bool.{Bool, true, false, not, cond, false≢true}
 use mathlib.Core.List.{[], ◌∷◌}
 use mathlib.Core.Option.{Option, none, some}
-use Prim.Native.Nat.{ℕ, zero, suc, ◌+◌, ◌-◌, ◌≤◌}
+use Prim.Native.Nat.{ℕ, zero, suc, ◌+◌, ◌≤◌}
 use native.Mathlib.Omega.{arith}
 use borrow.Author.Tests.{eqb-true, le-leb}
 use lib.Dec.{eqb, leb}
@@ -24,7 +24,7 @@ use Rattle.parse.specs.declared.types.RefSpec.{RefSpec}
 use Rattle.std.specs.Prelude.{Result, Ok, Err}
 use Rattle.refusal.specs.declared.Refusal.{Refusal}
 use Rattle.parse.specs.Places.{part_at, side_meant, Within, spec_meant, sign_length, supplied_place, named_place, source_place, places_at, places_of, parsed}
-use Rattle.parse.proofs.Parts.{part_length, part_of, part-within}
+use Rattle.parse.proofs.Parts.{part_length, part-within}
 use Rattle.parse.proofs.Answers.{read-refused, read-accepted, read-places, read-within}
 use Rattle.list.specs.declared.stretch.Stretch.{Stretch}
 use Rattle.view.specs.declared.Part as parts
@@ -57,12 +57,6 @@ module _ (specs : Text) (start : ℕ) (src : Side) where
   -- the digits stand within the list
   pub side-room : (len at n : ℕ) → start + len ≤ length specs → Within len src → src ≡ Part at n → start + at + n ≤ length specs
   side-room len at n h w is = omega (arith, part-within src at n is len w)
-
-  pub side-absent : src ≡ Absent → refused_part 16 0 ≡ side_digits specs start src
-  side-absent is = rw is
-
-  pub side-head : src ≡ Head → refused_part 16 0 ≡ side_digits specs start src
-  side-head is = rw is
 
 -- an object id as a source
 

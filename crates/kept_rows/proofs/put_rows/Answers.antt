@@ -1,5 +1,4 @@
-use Rattle.row_list.proofs.RowWalks.{rows-fewer}
-use Rattle.kept_rows.proofs.Walks.{row-taken, kept-starts, fixes-starts, written-short, written-kept, kept-room, fixes-room, written-more, kept-written, kept-length, fixes-written, fixes-length}
+use Rattle.kept_rows.proofs.Walks.{row-taken, kept-starts, fixes-starts, written-short, kept-room, fixes-room, written-more, kept-written, kept-length, fixes-written, fixes-length}
 use Rattle.kept_rows.proofs.put_rows.Goals as goal
 
 pub loop-r-init : goal.loop-r-init
@@ -8,17 +7,8 @@ loop-r-init c = (search kept-starts, search fixes-starts)
 pub put_either-to-requires : goal.put_either-to-requires
 put_either-to-requires c = (search row-taken, search written-short, search kept-room, search fixes-room)
 
-pub loop-r-smaller : goal.loop-r-smaller
-loop-r-smaller c = search rows-fewer
-
 pub loop-r-preserved : goal.loop-r-preserved
 loop-r-preserved c = (search written-more, search written-more)
-
-pub shape_of-out : goal.shape_of-out
-shape_of-out c = search written-kept
-
-pub shape_of-fixes : goal.shape_of-fixes
-shape_of-fixes c = search written-kept
 
 pub returns : goal.returns
 returns c = (search kept-written, search fixes-written, search kept-length, search fixes-length)

@@ -1,9 +1,6 @@
 -- `row_fields::destination_at` meets its contract: a row that was read tells its destination.
-use Rattle.row_fields.proofs.Fields.{no-front, there, absent_or_head}
+use Rattle.row_fields.proofs.Fields.{there, absent_or_head}
 use Rattle.row_fields.proofs.destination_at.Goals as goal
-
-pub returns-in_default : goal.returns-in_default
-returns-in_default c = search no-front
 
 pub returns-in-Part : goal.returns-in-Part
 returns-in-Part c = search there

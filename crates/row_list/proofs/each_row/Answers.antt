@@ -1,12 +1,6 @@
 use Rattle.std.proofs.lemmas.Result.{err_from_is_err_and}
-use Rattle.row_list.proofs.RowSteps.{rows_start, rows-less, rows_more, rows_all, rows-stop}
+use Rattle.row_list.proofs.RowSteps.{rows_more, rows_all, rows-stop}
 use Rattle.row_list.proofs.each_row.Goals as goal
-
-pub loop-r-init : goal.loop-r-init
-loop-r-init c = search rows_start
-
-pub loop-r-smaller : goal.loop-r-smaller
-loop-r-smaller c = search (rows-less, c.in_ok-r.was)
 
 pub loop-r-preserved : goal.loop-r-preserved
 loop-r-preserved c = search (rows_more, c.in_ok-r.was)

@@ -1,13 +1,10 @@
 -- `row_list::next_row` meets its contract: the end, a row that was read and asked question 16, or none that is well formed.
-use Rattle.row_list.proofs.RowSteps.{row-past, row_inside, row-outside, outside-told, row-passed, row_told, row-broken, broken-told}
+use Rattle.row_list.proofs.RowSteps.{row-past, row-outside, outside-told, row-passed, row_told, row-broken, broken-told}
 use borrow.Author.Rules.{rules}
 use Rattle.row_list.proofs.next_row.Goals as goal
 
 pub returns-then-list-c : goal.returns-then-list-c
 returns-then-list-c c = (search row-past, search rules)
-
-pub row_passes-requires : goal.row_passes-requires
-row_passes-requires c = search row_inside
 
 pub returns-in_default : goal.returns-in_default
 returns-in_default c = (search row-broken, search broken-told)

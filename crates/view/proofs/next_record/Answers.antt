@@ -9,5 +9,5 @@ returns-in-Ok-Some c = (search record-found, search record-within)
 pub returns-in-Ok-None : goal.returns-in-Ok-None
 returns-in-Ok-None c = (search record-end, omega arith)
 
-pub returns-in-Err : goal.returns-in-Err
-returns-in-Err c = (search record-none, omega arith)
+pub returns-in-Ok-None-2 : goal.returns-in-Ok-None-2
+returns-in-Ok-None-2 c = (search record-none, omega arith)
