@@ -8,7 +8,7 @@ use Rattle.search.proofs.Writes.{HitsWritten}
 use Rattle.search.proofs.put.put_hits.Given as goal
 
 abbrev pub invariant-loop-k : goal.invariant-loop-k
-invariant-loop-k l = HitsWritten (hit_bytes l.scope.back l.specs l.table l.items l.places) l.hits l.initial.out l.at l.k l.out l.end × (l.k ≤ length l.hits) × (l.m ≡ matcher_at l.table l.last)
+invariant-loop-k g l = HitsWritten (hit_bytes g.D.Direction.back l.specs l.table l.items l.places) l.hits l.initial.out l.at l.k l.out l.end × (l.k ≤ length l.hits) × (l.m ≡ matcher_at l.table l.last)
 
 abbrev pub decreases-loop-k : goal.decreases-loop-k
-decreases-loop-k l = length l.hits - l.k
+decreases-loop-k g l = length l.hits - l.k
