@@ -80,15 +80,13 @@ fn put_again<D: Listing>(
     let objects = notes.objects;
     let group = scope.specs;
     let mut end = put_hits::<D>(out, 0, scope, specs, table, items, places, &hits[..objects]);
-    let mut i = 0;
-    while i < group {
+    for i in 0..group {
         let turn = Turn {
             scope,
             spec: i,
             at: end,
         };
         end = put_spec::<D>(out, specs, table, items, places, negatives, hits, turn);
-        i += 1;
     }
 }
 

@@ -168,8 +168,7 @@ pub fn specs_found<D: Listing>(
     let group = scope.specs;
     let mut size = 0;
     let mut known = noted;
-    let mut i = 0;
-    while i < group {
+    for i in 0..group {
         let turn = Turn {
             scope,
             spec: i,
@@ -178,7 +177,6 @@ pub fn specs_found<D: Listing>(
         let x = spec_found::<D>(turn, specs, table, items, places, negatives, hits);
         known = x.hits;
         size += x.size;
-        i += 1;
     }
     Found { size, hits: known }
 }
@@ -191,13 +189,11 @@ pub fn objects_found(specs: &[u8], table: &[u16], group: usize, hits: &mut [u32]
 {
     let mut size = 0;
     let mut noted = 0;
-    let mut i = 0;
-    while i < group {
+    for i in 0..group {
         let m = matcher_at(table, i);
         let one = object_size(specs, m, i);
         noted = note(hits, noted, one, HIT_STRIDE * i);
         size += one;
-        i += 1;
     }
     Found { size, hits: noted }
 }

@@ -96,9 +96,8 @@ pub fn put_hits<D: Direction>(
     let mut end = at;
     let mut last = 0;
     let mut m = matcher_at(table, 0);
-    let mut k = 0;
-    while k < hits.len() {
-        let hit = wider(hits[k]);
+    for noted in hits {
+        let hit = wider(*noted);
         let i = hit / HIT_STRIDE;
         // Hits of one spec stand together, so its matcher is read once.
         if i != last {
@@ -106,7 +105,6 @@ pub fn put_hits<D: Direction>(
             last = i;
         }
         end = put_hit::<D>(out, end, scope, specs, m, items, places, hit);
-        k += 1;
     }
     end
 }
