@@ -30,6 +30,36 @@ number-taken (suc j) k (suc n) q (x ∷ s) h = number-taken j k n q s (omega ari
 pub number-part : (s : Text) (at n j k q : ℕ) → j + k ≤ n → number q k (drop j (part_at s at n)) ≡ number q k (drop (at + j) s)
 number-part s at n j k q h = number-taken j k n q (drop at s) h ∙ ap (number q k) (drop-drop j at s)
 
+-- ---- how many bytes a frame adds
+module _ (d : ℕ) where
+  pub adds-nothing : d ≡ 0 → true ≡ frame_adds d
+  unfolding frame_adds
+  adds-nothing e = rw e
+
+  pub adds-refs : d ≡ 5 → true ≡ frame_adds d
+  unfolding frame_adds
+  adds-refs e = rw e
+
+  pub adds-tags : d ≡ 10 → true ≡ frame_adds d
+  unfolding frame_adds
+  adds-tags e = rw e
+
+  pub adds-heads : d ≡ 11 → true ≡ frame_adds d
+  unfolding frame_adds
+  adds-heads e = rw e
+
+  pub adds-remotes : d ≡ 13 → true ≡ frame_adds d
+  unfolding frame_adds
+  adds-remotes e = rw e
+
+  pub adds-head : d ≡ 18 → true ≡ frame_adds d
+  unfolding frame_adds
+  adds-head e = rw e
+
+  pub adds_none : (d ≡ 0 → ⊥) → (d ≡ 5 → ⊥) → (d ≡ 10 → ⊥) → (d ≡ 11 → ⊥) → (d ≡ 13 → ⊥) → (d ≡ 18 → ⊥) → false ≡ frame_adds d
+  unfolding frame_adds
+  adds_none a b c e f g = rw (ne_eqb d 0 a, ne_eqb d 5 b, ne_eqb d 10 c, ne_eqb d 11 e, ne_eqb d 13 f, ne_eqb d 18 g)
+
 -- ---- one name
 module _ (f : Filter) (items : Text) (start n : ℕ) (w : start + n ≤ length items) where
   size : length (part_at items start n) ≡ n
