@@ -23,7 +23,7 @@ struct Frame {
 }
 
 // The frames, by candidate number.
-const TABLE: [Frame; 6] = [
+const TABLE: &[Frame; 6] = &[
     Frame {
         leading: b"",
         trailing: b"",

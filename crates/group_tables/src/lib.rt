@@ -62,11 +62,8 @@ fn note_specs(
     ensures { NotedAll specs.now records.now table.new negatives.new result }
 {
     let mut count = 0;
-    let mut i = 0;
-    while i < records.len() {
-        let q = spec_at(records, i);
-        count = note(specs, q, i, table, negatives, count);
-        i += 1;
+    for i in 0..records.len() {
+        count = note(specs, spec_at(records, i), i, table, negatives, count);
     }
     count
 }

@@ -11,27 +11,13 @@ use Rattle.buffer.specs.Splice.{splice}
 use Rattle.buffer.proofs.Splices.{length-splice, splice-next}
 use Rattle.buffer.proofs.Writing.{Writing, writing-starts, writing-room, writing_more, written-place, written-whole}
 use Rattle.match_row.specs.Asking.{Put}
-use Rattle.search.specs.Hits.{across, spec_gives, group_gives, objects_give, spec_hits, group_hits, object_hits, hit_bytes}
+use Rattle.search.specs.Hits.{across, spec_gives, group_gives, objects_give, first_bytes, spec_hits, group_hits, object_hits, first_hits, hit_bytes}
 use Rattle.search.specs.Noting.{PlacesIn, Adds, Good, AllGood}
 use Rattle.search.proofs.Across.{across-next, across-none}
-use Rattle.search.proofs.Notes.{adds_none}
 use Rattle.search.proofs.Given.{Gives, gives_none, gives_both, gives-good, spec-gives, group-gives, objects-give, spec-few-hits, objects-few-hits}
-use Rattle.match_group.specs.Listing.{first_bytes, first_hits, table_bytes, table_hits, Noted}
+use Rattle.match_group.specs.Listing.{table_bytes, table_hits, Noted}
 
 -- ---- what comes first
-
-module _ (back : Bool) (specs : Text) (table : List ℕ) (group : ℕ) where
-  pub first-none : back ≡ true → 0 ≡ length (first_bytes back specs table group)
-  first-none e = rw e
-
-  pub first-no-hits : back ≡ true → (hits : List ℕ) → Adds hits 0 (first_hits back specs table group) hits 0
-  first-no-hits e hits = rw e (adds_none hits 0)
-
-  pub first-objects : back ≡ false → (k : ℕ) → k ≡ length (objects_give specs table group) → k ≡ length (first_bytes back specs table group)
-  first-objects e k h = rw e h
-
-  pub first-object-hits : back ≡ false → (hits after : List ℕ) (noted : ℕ) → Adds hits 0 (object_hits specs table group) after noted → Adds hits 0 (first_hits back specs table group) after noted
-  first-object-hits e hits after noted a = rw e a
 
 -- there are no more such hits than specs
 first-few : (back : Bool) (specs : Text) (table : List ℕ) (group : ℕ) → length (first_hits back specs table group) ≤ group

@@ -17,8 +17,10 @@ use group::list_group;
 use group_tables::note_group;
 use limits::SPEC_COUNT;
 use list::places::{PLACES_ROOM, read_places};
+use match_row::direction::{Forward, Reverse};
 use matcher_table::MATCHER_NUMBERS;
 use negatives::NEGATIVE_NUMBERS;
+use search::listing::Listing;
 use search::scope::Scope;
 use spec_list::read_specs;
 use spec_list::record::SpecRecord;
@@ -36,8 +38,7 @@ const FEW_TABLE: usize = MATCHER_NUMBERS * FEW;
 const FEW_NEGATIVES: usize = NEGATIVE_NUMBERS * FEW;
 
 // The listing of a group, the first n records of a table, which is noted in tables that have room for it.
-fn list_in(
-    back: bool,
+fn list_in<D: Listing>(
     specs: &[u8],
     records: [SpecRecord; SPEC_COUNT],
     n: usize,
@@ -47,7 +48,7 @@ fn list_in(
     out: &mut [u8],
 ) -> Written
     requires { Grouped specs.now records n × (matcher_numbers * n ≤ length table.old) × (negative_numbers * n ≤ length negatives.old) }
-    ensures { MeetsOne (listing back (group_meant specs.now (take n records)) items.now) out.old out.new result.refusal result.record result.length }
+    ensures { MeetsOne (listing D.back (group_meant specs.now (take n records)) items.now) out.old out.new result.refusal result.record result.length }
 {
     let count = note_group(specs, records, n, table, negatives);
     let mut places = [0u16; PLACES_ROOM];
@@ -56,17 +57,15 @@ fn list_in(
         Err(e) => return refused(e.refusal.number(), e.record),
     };
     let scope = Scope {
-        back,
         specs: n,
         names,
         negatives: count,
     };
-    list_group(scope, specs, table, items, &places, negatives, out)
+    list_group::<D>(scope, specs, table, items, &places, negatives, out)
 }
 
 // The listing of a group of few specs: small tables are sooner cleared.
-fn list_few(
-    back: bool,
+fn list_few<D: Listing>(
     specs: &[u8],
     records: [SpecRecord; SPEC_COUNT],
     n: usize,
@@ -74,25 +73,15 @@ fn list_few(
     out: &mut [u8],
 ) -> Written
     requires { Grouped specs.now records n × (n ≤ few_specs) }
-    ensures { MeetsOne (listing back (group_meant specs.now (take n records)) items.now) out.old out.new result.refusal result.record result.length }
+    ensures { MeetsOne (listing D.back (group_meant specs.now (take n records)) items.now) out.old out.new result.refusal result.record result.length }
 {
     let mut table = [0u16; FEW_TABLE];
     let mut negatives = [0u16; FEW_NEGATIVES];
-    list_in(
-        back,
-        specs,
-        records,
-        n,
-        items,
-        &mut table,
-        &mut negatives,
-        out,
-    )
+    list_in::<D>(specs, records, n, items, &mut table, &mut negatives, out)
 }
 
 // The listing of a group.
-fn list_many(
-    back: bool,
+fn list_many<D: Listing>(
     specs: &[u8],
     records: [SpecRecord; SPEC_COUNT],
     n: usize,
@@ -100,34 +89,25 @@ fn list_many(
     out: &mut [u8],
 ) -> Written
     requires { Grouped specs.now records n }
-    ensures { MeetsOne (listing back (group_meant specs.now (take n records)) items.now) out.old out.new result.refusal result.record result.length }
+    ensures { MeetsOne (listing D.back (group_meant specs.now (take n records)) items.now) out.old out.new result.refusal result.record result.length }
 {
     let mut table = [0u16; TABLE];
     let mut negatives = [0u16; NEGATIVES];
-    list_in(
-        back,
-        specs,
-        records,
-        n,
-        items,
-        &mut table,
-        &mut negatives,
-        out,
-    )
+    list_in::<D>(specs, records, n, items, &mut table, &mut negatives, out)
 }
 
 // The listing of a spec list and an item list, forward or in reverse.
-fn list(back: bool, op: u64, specs: &[u8], items: &[u8], out: &mut [u8]) -> Written
-    ensures { MeetsOne (listing_answer back op specs.now items.now) out.old out.new result.refusal result.record result.length }
+fn list<D: Listing>(op: u64, specs: &[u8], items: &[u8], out: &mut [u8]) -> Written
+    ensures { MeetsOne (listing_answer D.back op specs.now items.now) out.old out.new result.refusal result.record result.length }
 {
     let g = match read_specs(op, specs) {
         Ok(g) => g,
         Err(e) => return refused(e.refusal.number(), e.record),
     };
     if g.count <= FEW {
-        list_few(back, specs, g.specs, g.count, items, out)
+        list_few::<D>(specs, g.specs, g.count, items, out)
     } else {
-        list_many(back, specs, g.specs, g.count, items, out)
+        list_many::<D>(specs, g.specs, g.count, items, out)
     }
 }
 
@@ -135,12 +115,12 @@ fn list(back: bool, op: u64, specs: &[u8], items: &[u8], out: &mut [u8]) -> Writ
 pub fn match_lhs(op: u64, specs: &[u8], items: &[u8], out: &mut [u8]) -> Written
     ensures { MeetsOne (match_lhs op specs.now items.now) out.old out.new result.refusal result.record result.length }
 {
-    list(false, op, specs, items, out)
+    list::<Forward>(op, specs, items, out)
 }
 
 // The reverse listing of the items under the specs, as a row list.
 pub fn match_rhs(op: u64, specs: &[u8], items: &[u8], out: &mut [u8]) -> Written
     ensures { MeetsOne (match_rhs op specs.now items.now) out.old out.new result.refusal result.record result.length }
 {
-    list(true, op, specs, items, out)
+    list::<Reverse>(op, specs, items, out)
 }

@@ -1,6 +1,6 @@
 -- The ends of a name in reverse, by the arms of the code, and that they mean where the name comes from. Assumes nothing.
 use Prim.Native.Nat.{ℕ, suc, ◌+◌, ◌≤◌}
-use mathlib.Core.Path.{◌≡◌, refl, sym, ap, ◌∙◌}
+use mathlib.Core.Path.{◌≡◌, refl, sym, ap, ◌∙◌, subst}
 use mathlib.Core.Bool.{Bool, true, false, cond}
 use Rattle.std.specs.Prelude as prelude
 use mathlib.Core.Logic.{◌⊎◌, inl, inr}
@@ -27,7 +27,7 @@ use Rattle.matcher.specs.declared.types.RowText.{RowText}
 use Rattle.matcher.specs.declared.types.RowText.TheVariants as row-text
 use Rattle.matcher.specs.declared.types.Ends.{Ends}
 use Rattle.matcher.specs.Matching.{ends_meant, needle_meant, target_meant, StarIn, NeedleWithin, Matches}
-use Rattle.match_one.specs.Answers.{row_of, spelt_ends, filled_place, needle_form, reverse_forms, back_ends, AnswersBack}
+use Rattle.match_one.specs.Answers.{row_of, spelt_ends, filled_place, whole_hit, source_place, reverse_made, needle_form, reverse_forms, back_ends, AnswersBack}
 use Rattle.match_one.proofs.Fills.{filled-meant, filled_within}
 
 -- a source without a star is a literal
@@ -93,6 +93,36 @@ module _ (specs name : Text) (src dst : Side) (lhs : Needle) (rhs : Target) wher
       -- it is not
       pub same-not-back : b ≡ false → AnswersBack specs name (reverse_forms (needle_form (side_text specs src) lhs) (target_meant (side_text specs dst) rhs) name) prelude.None
       same-not-back e = rw (literal-needle (side_text specs src) lhs is, of) (record { meant = rw (sym is_same ∙ e); within = tt })
+
+-- what was caught decides which ends the matcher makes
+module _ (specs name : Text) (m : Matcher) (w : Within (length specs) m.src) where
+  abbrev comes : prelude.Option Ends → Type 0
+  comes r = AnswersBack specs name (reverse_forms (needle_form (side_text specs m.src) m.lhs) (target_meant (side_text specs m.dst) m.rhs) name) r
+
+  pub both-hit : (star : ℕ) → m.lhs ≡ needle.Glob star → (second : ℕ) → m.rhs ≡ target.Pattern second → (g : prelude.Option Captured)
+      → capture_meant name g ≡ capture (take second (side_text specs m.dst)) (drop (suc second) (side_text specs m.dst)) name → CaptureWithin (length name) g → NeedleWithin m.src m.lhs
+      → AnswersBack specs name (reverse_forms (needle_form (side_text specs m.src) m.lhs) (target_meant (side_text specs m.dst) m.rhs) name) (reverse_made m g)
+  both-hit star is second of prelude.None eg l h = both-none specs name m.src m.dst m.lhs m.rhs star is second of prelude.None eg refl prelude.None refl
+  both-hit star is second of (prelude.Some x) eg l h =
+      let z : reverse_made m (prelude.Some x) ≡ row_of (filled_place m.src star x.from x.len) row-text.Name = rw is in
+      subst comes (sym z) (both-part specs name m.src m.dst m.lhs m.rhs star is second of (prelude.Some x) eg x (filled_place m.src star x.from x.len) refl l w h refl)
+
+  spelt : (lhs : Needle) (c : Captured) → (lhs ≡ needle.FullName) ⊎ ((lhs ≡ needle.Object) ⊎ (lhs ≡ needle.PartialName)) → prelude.Some (record { source = source_place m.src lhs c; destination = row-text.Name }) ≡ prelude.Some (spelt_ends m.src)
+  spelt lhs c (inl e) = rw e
+  spelt lhs c (inr (inl e)) = rw e
+  spelt lhs c (inr (inr e)) = rw e
+
+  pub same-hit : (is : (m.lhs ≡ needle.FullName) ⊎ ((m.lhs ≡ needle.Object) ⊎ (m.lhs ≡ needle.PartialName))) (l : Lead) (of : m.rhs ≡ target.Literal l) (u : Text) (eu : u ≡ side_text specs m.dst) (b : Bool) (eb : b ≡ same u name) (g : prelude.Option Captured) → g ≡ whole_hit b
+      → AnswersBack specs name (reverse_forms (needle_form (side_text specs m.src) m.lhs) (target_meant (side_text specs m.dst) m.rhs) name) (reverse_made m g)
+  same-hit is l of u eu b eb g eg = go b refl
+    where
+      go : (t : Bool) → b ≡ t → comes (reverse_made m g)
+      go true e =
+          let z : reverse_made m g ≡ prelude.Some (spelt_ends m.src) = ap (reverse_made m) (eg ∙ ap whole_hit e) ∙ spelt m.lhs (record { from = 0; len = 0 }) is in
+          subst comes (sym z) (same-is-back specs name m.src m.dst m.lhs m.rhs is l of u eu b eb e w (spelt_ends m.src) refl)
+      go false e =
+          let z : reverse_made m g ≡ prelude.None = ap (reverse_made m) (eg ∙ ap whole_hit e) in
+          subst comes (sym z) (same-not-back specs name m.src m.dst m.lhs m.rhs is l of u eu b eb e)
 
 -- ---- the spec
 

@@ -1,7 +1,8 @@
 -- The ends of a name forward, by the arms of the code, and that they mean what the spec makes of the name. Assumes nothing.
 use Prim.Native.Nat.{ℕ, suc, ◌+◌, ◌≤◌}
+use native.Mathlib.Omega.{arith}
 use mathlib.Core.Path.{◌≡◌, refl, sym, ap, ◌∙◌}
-use mathlib.Core.Bool.{Bool, true, false}
+use mathlib.Core.Bool.{Bool, true, false, not, cond, false≢true}
 use Rattle.std.specs.Prelude as prelude
 use mathlib.Core.Logic.{◌⊎◌, inl, inr}
 use mathlib.Core.Option.{Option, none, some, map}
@@ -25,7 +26,7 @@ use Rattle.matcher.specs.declared.types.Matcher.{Matcher}
 use Rattle.matcher.specs.declared.types.RowText.TheVariants as row-text
 use Rattle.matcher.specs.declared.types.Ends.{Ends}
 use Rattle.matcher.specs.Matching.{ends_meant, needle_meant, target_meant, Completes, StarIn, NeedleWithin, TargetWithin, Matches}
-use Rattle.match_one.specs.Answers.{completed_places, whole_places, caught_places, hit_by, maps_led, Answers}
+use Rattle.match_one.specs.Answers.{whole_places, caught_places, is_star, takes, whole_hit, hit_meant, destination_place, forward_row, forward_made, hit_by, maps_led, Answers}
 use Rattle.match_one.proofs.Fills.{filled-meant, filled_within}
 
 -- ---- stars
@@ -57,49 +58,74 @@ module _ (specs name : Text) (dst : Side) (w : Within (length specs) dst) where
       }
   caught-answers (target.Literal l') from n h l = record { meant = refl; within = tt }
 
--- ---- the arms of a `match` on what a source looks for
+-- ---- what a source catches
 
-module _ (specs name : Text) (src dst : Side) (lhs : Needle) (rhs : Target) where
-  pub forward-none : (lhs ≡ needle.Absent) ⊎ (lhs ≡ needle.Object) → Answers specs name dst rhs (hit_by (needle_meant (side_text specs src) lhs) name) prelude.None
-  forward-none (inl is) = rw is (record { meant = refl; within = tt })
-  forward-none (inr is) = rw is (record { meant = refl; within = tt })
+module _ (specs name : Text) (src : Side) (lhs : Needle) where
+  pub nothing-hit : (lhs ≡ needle.Absent) ⊎ (lhs ≡ needle.Object) → hit_meant name lhs prelude.None ≡ hit_by (needle_meant (side_text specs src) lhs) name
+  nothing-hit (inl is) = rw is
+  nothing-hit (inr is) = rw is
 
-  -- a star
-  module _ (star : ℕ) (is : lhs ≡ needle.Glob star) (g : prelude.Option Captured) (eg : capture_meant name g ≡ capture (take star (side_text specs src)) (drop (suc star) (side_text specs src)) name) where
-    pub glob-none : g ≡ prelude.None → (r : prelude.Option Ends) → r ≡ prelude.None → Answers specs name dst rhs (hit_by (needle_meant (side_text specs src) lhs) name) r
-    glob-none e r er =
-        let z : capture (take star (side_text specs src)) (drop (suc star) (side_text specs src)) name ≡ none = sym (rw e at eg) in
-        rw (is, z, er) (record { meant = refl; within = tt })
+  pub glob-hit : (star : ℕ) → lhs ≡ needle.Glob star → (g : prelude.Option Captured) → capture_meant name g ≡ capture (take star (side_text specs src)) (drop (suc star) (side_text specs src)) name
+      → hit_meant name lhs g ≡ hit_by (needle_meant (side_text specs src) lhs) name
+  glob-hit star is g eg = rw (is, ← eg) (go g)
+    where
+      go : (g : prelude.Option Captured) → hit_meant name (needle.Glob star) g ≡ caught_by (capture_meant name g)
+      go prelude.None = refl
+      go (prelude.Some c) = refl
 
-    pub glob-part : (x : Captured) (r : prelude.Option Ends) → g ≡ prelude.Some x → CaptureWithin (length name) g → Within (length specs) dst → TargetWithin dst rhs → r ≡ caught_places dst rhs x.from x.len
-        → Answers specs name dst rhs (hit_by (needle_meant (side_text specs src) lhs) name) r
-    glob-part x r e l w h er =
-        let z : capture (take star (side_text specs src)) (drop (suc star) (side_text specs src)) name ≡ some (part_at name x.from x.len) = sym (rw e at eg) in
-        let f : x.from + x.len ≤ length name = rw e at l in
-        rw (is, z, er) (caught-answers specs name dst w rhs x.from x.len h f)
+  module _ (u : Text) (eu : u ≡ side_text specs src) (b : Bool) (g : prelude.Option Captured) (eg : g ≡ whole_hit b) where
+    pub full-hit : lhs ≡ needle.FullName → b ≡ same u name → hit_meant name lhs g ≡ hit_by (needle_meant (side_text specs src) lhs) name
+    full-hit is eb = rw (is, eg, ← eu, ← eb) (go b)
+      where
+        go : (b : Bool) → hit_meant name needle.FullName (whole_hit b) ≡ whole_if b
+        go true = refl
+        go false = refl
 
-  module _ (u : Text) (eu : u ≡ side_text specs src) (b : Bool) where
-    -- a full name
-    module _ (is : lhs ≡ needle.FullName) (eb : b ≡ same u name) where
-      is_same : same (side_text specs src) name ≡ b
-      is_same = sym (rw eu at eb)
+    pub partial-hit : lhs ≡ needle.PartialName → b ≡ any (same name) (candidates u) → hit_meant name lhs g ≡ hit_by (needle_meant (side_text specs src) lhs) name
+    partial-hit is eb = rw (is, eg, ← eu, ← eb) (go b)
+      where
+        go : (b : Bool) → hit_meant name needle.PartialName (whole_hit b) ≡ whole_if b
+        go true = refl
+        go false = refl
 
-      pub full_is : (r : prelude.Option Ends) → b ≡ true → Within (length specs) dst → r ≡ completed_places row-text.Name dst rhs → Answers specs name dst rhs (hit_by (needle_meant (side_text specs src) lhs) name) r
-      full_is r e w h = rw (is, is_same, e, h) (whole-answers specs name dst w rhs)
+-- nothing or a whole name stands in each name
+pub whole-within : (n : ℕ) (b : Bool) (g : prelude.Option Captured) → g ≡ whole_hit b → CaptureWithin n g
+whole-within n b g eg = rw eg (go b)
+  where
+    go : (b : Bool) → CaptureWithin n (whole_hit b)
+    go true = omega arith
+    go false = tt
 
-      pub full-not : b ≡ false → Answers specs name dst rhs (hit_by (needle_meant (side_text specs src) lhs) name) prelude.None
-      full-not e = rw (is, is_same, e) (record { meant = refl; within = tt })
+-- ---- the ends that come of it
 
-    -- a partial one
-    module _ (is : lhs ≡ needle.PartialName) (eb : b ≡ any (same name) (candidates u)) where
-      is-candidate : any (same name) (candidates (side_text specs src)) ≡ b
-      is-candidate = sym (eb ∙ ap (λ (t : Text). any (same name) (candidates t)) eu)
+module _ (specs name : Text) (m : Matcher) (g : prelude.Option Captured) (eg : hit_meant name m.lhs g ≡ hit_by (needle_meant (side_text specs m.src) m.lhs) name) where
+  pub hit-missed : g ≡ prelude.None → (r : prelude.Option Captured) → r ≡ prelude.None → Answers specs name m.dst m.rhs (hit_by (needle_meant (side_text specs m.src) m.lhs) name) (forward_made m r)
+  hit-missed e r er = rw (← eg, e, er) (record { meant = refl; within = tt })
 
-      pub partial-is : (r : prelude.Option Ends) → b ≡ true → Within (length specs) dst → r ≡ completed_places row-text.Name dst rhs → Answers specs name dst rhs (hit_by (needle_meant (side_text specs src) lhs) name) r
-      partial-is r e w h = rw (is, is-candidate, e, h) (whole-answers specs name dst w rhs)
+  module _ (c : Captured) (is : g ≡ prelude.Some c) (b : Bool) (eb : b ≡ takes m.lhs m.rhs) where
+    pub hit-left : b ≡ false → Answers specs name m.dst m.rhs (hit_by (needle_meant (side_text specs m.src) m.lhs) name) prelude.None
+    hit-left e = rw (← eg, is) (go (is_star m.lhs) refl m.rhs (sym eb ∙ e))
+      where
+        go : (s : Bool) → is_star m.lhs ≡ s → (t : Target) → takes m.lhs t ≡ false → Answers specs name m.dst t (cond s (caught (part_at name c.from c.len)) whole) prelude.None
+        go s q target.Absent h = absurd (false≢true (sym h))
+        go true q (target.Pattern star) h = absurd (false≢true (sym h ∙ q))
+        go false q (target.Pattern star) h = record { meant = refl; within = tt }
+        go true q (target.Literal l) h = record { meant = refl; within = tt }
+        go false q (target.Literal l) h = absurd (false≢true (sym h ∙ ap not q))
 
-      pub partial-not : b ≡ false → Answers specs name dst rhs (hit_by (needle_meant (side_text specs src) lhs) name) prelude.None
-      partial-not e = rw (is, is-candidate, e) (record { meant = refl; within = tt })
+    pub hit-taken : b ≡ true → CaptureWithin (length name) g → Within (length specs) m.dst → TargetWithin m.dst m.rhs → Answers specs name m.dst m.rhs (hit_by (needle_meant (side_text specs m.src) m.lhs) name) (prelude.Some (forward_row m c))
+    hit-taken e l w h =
+        let f : c.from + c.len ≤ length name = rw is at l in
+        rw (← eg, is) (go (is_star m.lhs) refl m.rhs (sym eb ∙ e) h f)
+      where
+        go : (s : Bool) → is_star m.lhs ≡ s → (t : Target) → takes m.lhs t ≡ true → TargetWithin m.dst t → c.from + c.len ≤ length name
+            → Answers specs name m.dst t (cond s (caught (part_at name c.from c.len)) whole) (prelude.Some (record { source = row-text.Name; destination = destination_place m.dst t c }))
+        go true q target.Absent h u f = record { meant = refl; within = (tt, tt) }
+        go false q target.Absent h u f = record { meant = refl; within = (tt, tt) }
+        go true q (target.Pattern star) h u f = caught-answers specs name m.dst w (target.Pattern star) c.from c.len u f
+        go false q (target.Pattern star) h u f = absurd (false≢true (sym q ∙ h))
+        go true q (target.Literal l) h u f = absurd (false≢true (sym (ap not q) ∙ h))
+        go false q (target.Literal l) h u f = whole-answers specs name m.dst w (target.Literal l)
 
 -- ---- the spec
 

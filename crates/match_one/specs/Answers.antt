@@ -1,6 +1,6 @@
 -- What the parts of the code answer: ends as places, and what ends have to mean.
 use Rattle.std.specs.Prelude as prelude
-use Rattle.std.specs.Prelude.{ℕ, suc, ◌+◌, ◌-◌, ◌≡◌, ◌++◌, length, take, drop}
+use Rattle.std.specs.Prelude.{ℕ, suc, ◌+◌, ◌-◌, ◌≡◌, Bool, true, false, not, cond, ◌++◌, length, take, drop}
 use Rattle.std.proofs.Math.Option.{Option, none, some, map}
 use Rattle.meaning.specs.Bytes.{Text}
 use Rattle.meaning.specs.Match as meaning
@@ -9,7 +9,10 @@ use Rattle.meaning.specs.Listing as listing
 use Rattle.meaning.specs.Listing.{ends_of}
 use Rattle.parse.specs.declared.types.Side.{Side}
 use Rattle.parse.specs.declared.types.Side.TheVariants as side
+use Rattle.parse.specs.Places.{part_at}
 use Rattle.refspec.specs.Instructions.{side_text}
+use Rattle.glob.specs.declared.Captured.{Captured}
+use Rattle.matcher.specs.declared.types.Matcher.{Matcher}
 use Rattle.matcher.specs.declared.types.Needle.{Needle}
 use Rattle.matcher.specs.declared.types.Needle.TheVariants as needle
 use Rattle.matcher.specs.declared.types.Lead.TheVariants as lead
@@ -66,6 +69,59 @@ object_places src (needle.Glob star) dst rhs = prelude.None
 object_places src needle.FullName dst rhs = prelude.None
 object_places src needle.Object dst rhs = digits_places src dst rhs
 object_places src needle.PartialName dst rhs = prelude.None
+
+-- what is caught of a name that is matched as a whole, if it is
+abbrev pub whole_hit : Bool → prelude.Option Captured
+whole_hit b = cond b (prelude.Some (record { from = 0; len = 0 })) prelude.None
+
+-- a source has a star
+abbrev pub is_star : Needle → Bool
+is_star needle.Absent = false
+is_star (needle.Glob star) = true
+is_star needle.FullName = false
+is_star needle.Object = false
+is_star needle.PartialName = false
+
+-- a destination takes what a source catches: a pattern a part of the name, a literal nothing, and none takes all
+abbrev pub takes : Needle → Target → Bool
+takes n target.Absent = true
+takes n (target.Pattern star) = is_star n
+takes n (target.Literal l) = not (is_star n)
+
+-- the hit by what was caught of a name
+abbrev pub hit_meant : Text → Needle → prelude.Option Captured → Hit
+hit_meant name n prelude.None = miss
+hit_meant name n (prelude.Some c) = cond (is_star n) (caught (part_at name c.from c.len)) whole
+
+-- the destination of the forward row of a name of which this was caught
+abbrev pub destination_place : Side → Target → Captured → RowText
+destination_place dst target.Absent c = row-text.Absent
+destination_place dst (target.Pattern star) c = filled_place dst star c.from c.len
+destination_place dst (target.Literal l) c = row-text.Led l dst
+
+-- the source of the reverse row
+abbrev pub source_place : Side → Needle → Captured → RowText
+source_place src needle.Absent c = row-text.Led lead.AsIs src
+source_place src (needle.Glob star) c = filled_place src star c.from c.len
+source_place src needle.FullName c = row-text.Led lead.AsIs src
+source_place src needle.Object c = row-text.Led lead.AsIs src
+source_place src needle.PartialName c = row-text.Led lead.AsIs src
+
+-- the ends of these rows
+abbrev pub forward_row : Matcher → Captured → Ends
+forward_row m c = record { source = row-text.Name; destination = destination_place m.dst m.rhs c }
+
+abbrev pub reverse_row : Matcher → Captured → Ends
+reverse_row m c = record { source = source_place m.src m.lhs c; destination = row-text.Name }
+
+-- the ends that come of what was caught, if anything was
+abbrev pub forward_made : Matcher → prelude.Option Captured → prelude.Option Ends
+forward_made m prelude.None = prelude.None
+forward_made m (prelude.Some c) = prelude.Some (forward_row m c)
+
+abbrev pub reverse_made : Matcher → prelude.Option Captured → prelude.Option Ends
+reverse_made m prelude.None = prelude.None
+reverse_made m (prelude.Some c) = prelude.Some (reverse_row m c)
 
 -- how a needle matches a name; none matches nothing
 abbrev pub hit_by : Option meaning.Needle → Text → Hit

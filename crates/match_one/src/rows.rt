@@ -5,12 +5,12 @@ ghost use Rattle.meaning.specs.Match.{capture};
 ghost use Rattle.glob.specs.Captures.{capture_meant, CaptureWithin};
 ghost use Rattle.parse.specs.Places.{Within};
 ghost use Rattle.refspec.specs.Instructions.{side_text};
-ghost use Rattle.matcher.specs.Matching.{StarIn, MatcherWithin};
-ghost use Rattle.match_one.specs.Answers.{filled_place, spelt_ends, completed_places, caught_places};
+ghost use Rattle.matcher.specs.Matching.{StarIn, MatcherWithin, needle_meant};
+ghost use Rattle.match_one.specs.Answers.{whole_hit, hit_meant, hit_by, takes, filled_place, spelt_ends, completed_places, caught_places};
 ghost use Rattle.match_one.specs.Known.{caught_len};
 
 use glob::{Captured, glob};
-use matcher::types::{Ends, Filled, Lead, Matcher, RowText, Target};
+use matcher::types::{Ends, Filled, Lead, Matcher, Needle, RowText, Target};
 use parse::types::Side;
 use refspec::side::text_of;
 
@@ -84,6 +84,44 @@ pub(crate) fn side_glob(specs: &[u8], side: Side, star: usize, name: &[u8]) -> O
         × CaptureWithin (length name.now) result }
 {
     glob(text_of(specs, b"HEAD", side), star, name)
+}
+
+// What is caught of a name that is matched as a whole, if it is: nothing of it.
+pub(crate) fn whole_if(matched: bool) -> Option<Captured>
+    ensures { result ≡ whole_hit matched }
+{
+    if matched {
+        Some(Captured { from: 0, len: 0 })
+    } else {
+        None
+    }
+}
+
+// What the source of a spec catches of a name, if it matches; an object id matches no name.
+pub(crate) fn source_hit(specs: &[u8], m: Matcher, name: &[u8]) -> Option<Captured>
+    requires { MatcherWithin (length specs.now) m }
+    ensures { (hit_meant name.now m.lhs result ≡ hit_by (needle_meant (side_text specs.now m.src) m.lhs) name.now) × CaptureWithin (length name.now) result }
+{
+    match m.lhs {
+        Needle::Absent | Needle::Object => None,
+        Needle::Glob(star) => side_glob(specs, m.src, star, name),
+        Needle::FullName => whole_if(compare::same(text_of(specs, b"HEAD", m.src), name)),
+        Needle::PartialName => whole_if(frames::any_candidate(
+            text_of(specs, b"HEAD", m.src),
+            name,
+        )),
+    }
+}
+
+// The destination takes what the source catches: a pattern a part of the name, a literal nothing, and where there is none all is taken.
+pub(crate) fn takes(m: Matcher) -> bool
+    ensures { result ≡ takes m.lhs m.rhs }
+{
+    match m.rhs {
+        Target::Absent => true,
+        Target::Pattern(_) => matches!(m.lhs, Needle::Glob(_)),
+        Target::Literal(_) => !matches!(m.lhs, Needle::Glob(_)),
+    }
 }
 
 // How many bytes a name of n bytes has in place of the star of a side that it is known to match: what is more than the side has.

@@ -19,7 +19,7 @@ use Rattle.match_one.specs.Known.{KnownForward, KnownReverse}
 use Rattle.row.specs.declared.Numbers.{Numbers}
 use Rattle.row.specs.Rows.{row_of_ends}
 use Rattle.match_row.specs.Pairs.{matcher_spec, field_ends, field_numbers, given_row, field_bytes}
-use Rattle.match_row.specs.Asking.{MatcherReady, FieldTold, Put}
+use Rattle.match_row.specs.Asking.{MatcherReady, NameTold, FieldTold, Put}
 
 no_bytes : (t : Text) → length t ≡ 0 → t ≡ []
 no_bytes [] h = refl
@@ -36,19 +36,20 @@ module _ (back : Bool) (specs : Text) (m : Matcher) (ready : MatcherReady specs 
         within = w;
       })
 
-  pub field_back : (field ≡ 0 → ⊥) → back ≡ true → KnownReverse specs m n r → FieldTold back specs m field n r
-  field_back d e k = go field d
+  pub field-name : (field ≡ 0 → ⊥) → NameTold back specs m n r → FieldTold back specs m field n r
+  field-name d k = go field d
     where
       go : (field : ℕ) → (field ≡ 0 → ⊥) → FieldTold back specs m field n r
       go zero d = absurd (d refl)
-      go (suc j) d = rw e (record { told = λ name l x p. k.meant name l (matcher_spec specs m) ready.matches x p ∙ p; within = k.within })
+      go (suc j) d = record { told = k.told; within = k.within }
 
-  pub field-on : (field ≡ 0 → ⊥) → back ≡ false → KnownForward specs m n r → FieldTold back specs m field n r
-  field-on d e k = go field d
-    where
-      go : (field : ℕ) → (field ≡ 0 → ⊥) → FieldTold back specs m field n r
-      go zero d = absurd (d refl)
-      go (suc j) d = rw e (record { told = λ name l x p. k.meant name l (matcher_spec specs m) ready.matches x p ∙ p; within = k.within })
+-- those of a name, in each direction
+module _ (specs : Text) (m : Matcher) (ready : MatcherReady specs m) (n : ℕ) (r : prelude.Option Ends) where
+  pub known-back : KnownReverse specs m n r → NameTold true specs m n r
+  known-back k = record { told = λ name l x p. k.meant name l (matcher_spec specs m) ready.matches x p ∙ p; within = k.within }
+
+  pub known-on : KnownForward specs m n r → NameTold false specs m n r
+  known-on k = record { told = λ name l x p. k.meant name l (matcher_spec specs m) ready.matches x p ∙ p; within = k.within }
 
 -- the row of these ends
 module _ (back : Bool) (specs name : Text) (m : Matcher) (i field : ℕ) (r : prelude.Option Ends) (t : FieldTold back specs m field (length name) r) (some_bytes : 0 < length (field_bytes back i field name (matcher_spec specs m))) where

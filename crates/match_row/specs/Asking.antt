@@ -29,6 +29,11 @@ pub record EndsTold (back : Bool) (specs name : Text) (m : Matcher) (e : prelude
   pub told : ends_meant specs name e ≡ ends_in back (matcher_spec specs m) name
   pub within : EndsWithin (length specs) (length name) e
 
+-- the ends of the row of a name of so many bytes that has one
+pub record NameTold (back : Bool) (specs : Text) (m : Matcher) (n : ℕ) (e : prelude.Option Ends) : Type 0 where
+  pub told : (name : Text) → length name ≡ n → (r : listing.Ends) → ends_in back (matcher_spec specs m) name ≡ some r → ends_meant specs name e ≡ some r
+  pub within : EndsWithin (length specs) n e
+
 -- the ends of the row with this item field, of a name of so many bytes that has one
 pub record FieldTold (back : Bool) (specs : Text) (m : Matcher) (field n : ℕ) (e : prelude.Option Ends) : Type 0 where
   pub told : (name : Text) → length name ≡ n → (r : listing.Ends) → field_ends back (matcher_spec specs m) field name ≡ some r → ends_meant specs name e ≡ some r

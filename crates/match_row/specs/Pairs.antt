@@ -1,4 +1,5 @@
 -- The bytes that one spec gives for one name, and as an object source.
+use Rattle.std.specs.Prelude as prelude
 use Rattle.std.specs.Prelude.{ℕ, zero, suc, Bool, true, false, cond, List, [], ◌∷◌}
 use Rattle.std.proofs.Math.Option.{Option, none, some}
 use Rattle.meaning.specs.Bytes.{Text, each}
@@ -7,8 +8,11 @@ use Rattle.meaning.specs.Rows as meaning
 use Rattle.meaning.specs.Rows.{row_bytes, row_list_of}
 use Rattle.meaning.specs.Listing.{Ends, forward_ends, reverse_ends, name_row, object_rows}
 use Rattle.parse.specs.Places.{side_meant}
+use Rattle.glob.specs.declared.Captured.{Captured}
 use Rattle.matcher.specs.declared.types.Matcher.{Matcher}
+use Rattle.matcher.specs.declared.types.Ends as places
 use Rattle.matcher.specs.Matching.{object_ends}
+use Rattle.match_one.specs.Answers.{forward_made, reverse_made}
 use Rattle.row.specs.declared.Kind.{Kind}
 use Rattle.row.specs.declared.Kind.TheVariants as Kind-is
 use Rattle.row.specs.declared.Numbers.{Numbers}
@@ -22,6 +26,11 @@ matcher_spec specs m = record { mode = Mode.Normal; source = side_meant specs m.
 abbrev pub ends_in : Bool → Spec → Text → Option Ends
 ends_in true = reverse_ends
 ends_in false = forward_ends
+
+-- those that a matcher makes of what it caught of a name, if it did
+abbrev pub made_in : Bool → Matcher → prelude.Option Captured → prelude.Option places.Ends
+made_in true = reverse_made
+made_in false = forward_made
 
 -- the bytes of a row of a name, unless its source is gone
 abbrev pub row_unless : (Text → Bool) → meaning.Row → Text

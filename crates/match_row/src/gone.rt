@@ -75,7 +75,8 @@ fn filled_removed(specs: &[u8], name: &[u8], f: Filled, negatives: &[u16], count
     )
 }
 
-// A negative matches the source of a row.
+// A negative matches the source of a row. Inlined: most groups have none.
+#[inline(always)]
 pub(crate) fn removed(
     specs: &[u8],
     name: &[u8],

@@ -7,26 +7,16 @@ ghost use Rattle.meaning.specs.Limits.{item_count, spec_count, name_bytes};
 ghost use Rattle.negatives.specs.Negatives.{excluded_by};
 ghost use Rattle.row.specs.Rows.{row_most};
 ghost use Rattle.match_row.specs.Pairs.{matcher_spec, item_bytes, object_bytes, field_numbers, field_bytes};
-ghost use Rattle.match_row.specs.Asking.{Askable, MatcherReady, EndsTold, FieldTold, Put};
+ghost use Rattle.match_row.specs.Asking.{Askable, MatcherReady, FieldTold, Put};
 
+pub mod direction;
 mod gone;
 
+use direction::Direction;
 use gone::removed;
-use match_one::{forward, known_forward, known_reverse, object, reverse};
+use match_one::object;
 use matcher::types::{Ends, Matcher};
 use row::{Kind, Numbers, put_row, row_size};
-
-// The ends that a spec makes of a name, forward or in reverse.
-fn ends(back: bool, specs: &[u8], m: Matcher, name: &[u8]) -> Option<Ends>
-    requires { MatcherReady specs.now m }
-    ensures { EndsTold back specs.now name.now m result }
-{
-    if back {
-        reverse(specs, m, name)
-    } else {
-        forward(specs, m, name)
-    }
-}
 
 // The numbers of a row of spec i with this item field: 0 stands for no item, and the source is then an object.
 fn numbers(i: usize, field: usize) -> Numbers
@@ -41,8 +31,7 @@ fn numbers(i: usize, field: usize) -> Numbers
 }
 
 // How many bytes item j takes under spec i.
-pub fn item_size(
-    back: bool,
+pub fn item_size<D: Direction>(
     specs: &[u8],
     m: Matcher,
     i: usize,
@@ -52,18 +41,17 @@ pub fn item_size(
     count: usize,
 ) -> usize
     requires { MatcherReady specs.now m × Askable specs.now negatives.now count × (i ≤ spec_count) × (j < item_count) × (length name.now ≤ name_bytes) }
-    ensures { (result ≡ length (item_bytes back (excluded_by specs.now negatives.now count) i j name.now (matcher_spec specs.now m))) × (result ≤ row_most) }
+    ensures { (result ≡ length (item_bytes D.back (excluded_by specs.now negatives.now count) i j name.now (matcher_spec specs.now m))) × (result ≤ row_most) }
 {
-    match ends(back, specs, m, name) {
-        None => 0,
-        Some(e) => {
-            if removed(specs, name, e.source, negatives, count) {
-                0
-            } else {
-                row_size(specs, name, numbers(i, j + 1), e)
-            }
-        }
+    // Most names are not matched, and no ends are made of these.
+    let Some(c) = D::hit(specs, m, name) else {
+        return 0;
+    };
+    let e = D::made(specs, m, c);
+    if removed(specs, name, e.source, negatives, count) {
+        return 0;
     }
+    row_size(specs, name, numbers(i, j + 1), e)
 }
 
 // How many bytes the row of spec i takes as an object source; any other spec has none.
@@ -78,34 +66,31 @@ pub fn object_size(specs: &[u8], m: Matcher, i: usize) -> usize
 }
 
 // The ends of the row with this item field, of a name of n bytes that has one.
-fn field_ends(back: bool, specs: &[u8], m: Matcher, field: usize, n: usize) -> Option<Ends>
+fn field_ends<D: Direction>(specs: &[u8], m: Matcher, field: usize, n: usize) -> Option<Ends>
     requires { MatcherReady specs.now m × (n ≤ name_bytes) × (field ≡ 0 → n ≡ 0) }
-    ensures { FieldTold back specs.now m field n result }
+    ensures { FieldTold D.back specs.now m field n result }
 {
     if field == 0 {
         object(specs, m)
-    } else if back {
-        known_reverse(specs, m, n)
     } else {
-        known_forward(specs, m, n)
+        D::known_ends(specs, m, n)
     }
 }
 
 // Writes the row of spec i with this item field, which there is, and answers the place after it.
-pub fn put_field(
+pub fn put_field<D: Direction>(
     out: &mut [u8],
     at: usize,
-    back: bool,
     specs: &[u8],
     m: Matcher,
     i: usize,
     field: usize,
     name: &[u8],
 ) -> usize
-    requires { MatcherReady specs.now m × (i ≤ spec_count) × (field ≤ item_count) × (length name.now ≤ name_bytes) × (field ≡ 0 → length name.now ≡ 0) × (0 < length (field_bytes back i field name.now (matcher_spec specs.now m))) × (at + length (field_bytes back i field name.now (matcher_spec specs.now m)) ≤ length out.old) }
-    ensures { Put out.old at (field_bytes back i field name.now (matcher_spec specs.now m)) out.new result }
+    requires { MatcherReady specs.now m × (i ≤ spec_count) × (field ≤ item_count) × (length name.now ≤ name_bytes) × (field ≡ 0 → length name.now ≡ 0) × (0 < length (field_bytes D.back i field name.now (matcher_spec specs.now m))) × (at + length (field_bytes D.back i field name.now (matcher_spec specs.now m)) ≤ length out.old) }
+    ensures { Put out.old at (field_bytes D.back i field name.now (matcher_spec specs.now m)) out.new result }
 {
-    match field_ends(back, specs, m, field, name.len()) {
+    match field_ends::<D>(specs, m, field, name.len()) {
         None => at,
         Some(e) => put_row(out, at, specs, name, numbers(i, field), e),
     }

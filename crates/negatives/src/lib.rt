@@ -57,32 +57,18 @@ fn side_negative(specs: &[u8], side: Side) -> Negative
 fn is_glob(n: Negative) -> bool
     ensures { result ≡ is_glob n }
 {
-    match n {
-        Negative::Nothing => false,
-        Negative::Head => false,
-        Negative::Literal { at: _, len: _ } => false,
-        Negative::Glob {
-            at: _,
-            len: _,
-            star: _,
-        } => true,
-    }
+    matches!(n, Negative::Glob { .. })
 }
 
 // The source n with a destination d that is there: both are patterns or neither, else nothing is matched.
 fn besides(n: Negative, d: Negative) -> Negative
     ensures { result ≡ besides n d }
 {
-    if is_glob(n) {
-        if is_glob(d) {
-            return n;
-        }
-        return Negative::Nothing;
+    if is_glob(n) == is_glob(d) {
+        n
+    } else {
+        Negative::Nothing
     }
-    if is_glob(d) {
-        return Negative::Nothing;
-    }
-    n
 }
 
 // What a spec looks for, taken as a negative.
@@ -201,13 +187,10 @@ pub fn excluded(specs: &[u8], negatives: &[u16], count: usize, name: &[u8]) -> b
     requires { (negative_numbers * count ≤ length negatives.now) × ((k : ℕ) → k < count → NegativeWithin (length specs.now) (negative_at negatives.now k)) }
     ensures { result ≡ excluded_by specs.now negatives.now count name.now }
 {
-    let mut k = 0;
-    while k < count {
-        let n = negative_at(negatives, k);
-        if matches(specs, n, name) {
+    for k in 0..count {
+        if matches(specs, negative_at(negatives, k), name) {
             return true;
         }
-        k += 1;
     }
     false
 }
@@ -263,13 +246,10 @@ pub fn excluded_pieces(
     requires { (negative_numbers * count ≤ length negatives.now) × ((k : ℕ) → k < count → NegativeWithin (length specs.now) (negative_at negatives.now k)) }
     ensures { result ≡ excluded_by specs.now negatives.now count (a.now ++ (b.now ++ c.now)) }
 {
-    let mut i = 0;
-    while i < count {
-        let n = negative_at(negatives, i);
-        if matches_pieces(specs, n, a, b, c) {
+    for k in 0..count {
+        if matches_pieces(specs, negative_at(negatives, k), a, b, c) {
             return true;
         }
-        i += 1;
     }
     false
 }

@@ -119,7 +119,8 @@ fn put_destination(
     }
 }
 
-// Writes a row, and answers the place after it.
+// Writes a row, and answers the place after it. Inlined, so that its ends are not put together in memory first.
+#[inline(always)]
 pub fn put_row(
     out: &mut [u8],
     at: usize,

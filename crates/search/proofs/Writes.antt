@@ -71,7 +71,7 @@ field-short : (items : Text) (places : List ℕ) (n : ℕ) → PlacesIn items pl
 field-short items places n p zero h = omega arith
 field-short items places n p (suc j) h = p.short j (omega arith)
 
-module _ (back : Bool) (items : Text) (places : List ℕ) (n : ℕ) (p : PlacesIn items places n) (hit : ℕ) (there : hit % hit_stride ≤ n) where
+module _ (items : Text) (places : List ℕ) (n : ℕ) (p : PlacesIn items places n) (hit : ℕ) (there : hit % hit_stride ≤ n) where
   pub hit-field-few : hit % hit_stride ≤ item_count
   hit-field-few = omega (arith, p.few)
 
@@ -92,7 +92,7 @@ module _ (back : Bool) (items : Text) (places : List ℕ) (n : ℕ) (p : PlacesI
       pub hit-empty : hit % hit_stride ≡ 0 → length name ≡ 0
       hit-empty z = name-long ∙ ez ∙ rw z
 
-      module _ (s : Spec) where
+      module _ (back : Bool) (s : Spec) where
         same : field_bytes back (hit / hit_stride) (hit % hit_stride) name s ≡ under_spec back items places hit s
         same = rw (en, es, ez)
 

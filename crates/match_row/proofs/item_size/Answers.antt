@@ -1,19 +1,29 @@
--- No row, one that is gone, or the one that the ends make.
-use Rattle.match_row.proofs.Kept.{none-measured, gone-measured, kept-measured, source-short, ends-within, source-within, item-small, lent_is}
+-- A name that is not matched has no row; the row of one that is is gone, or the one that the ends make.
+use Rattle.match_row.proofs.Kept.{hit-none, hit-some, none-measured, gone-measured, kept-measured, source-short, ends-within, source-within, item-small, lent_is}
 use borrow.Author.Rules.{rules}
 use Rattle.match_row.proofs.item_size.Goals as goal
 
+pub returns-in_default : goal.returns-in_default
+returns-in_default g c =
+    let t = hit-none _ _ _ _ _ c.hit.ensures (search rules) in
+    (search none-measured, search rules)
+
 pub removed-requires : goal.removed-requires
-removed-requires c = (search lent_is, search source-within, search rules, search source-short)
+removed-requires g c =
+    let t = hit-some _ _ _ _ _ c.hit.ensures _ (search rules) _ c.made-e.ensures in
+    (search lent_is, search source-within, search rules, search source-short)
 
 pub row_size-requires : goal.row_size-requires
-row_size-requires c = (search lent_is, search (item-small, ends-within))
-
-pub returns-in-None : goal.returns-in-None
-returns-in-None c = (search none-measured, search rules)
+row_size-requires g c =
+    let t = hit-some _ _ _ _ _ c.hit.ensures _ (search rules) _ c.made-e.ensures in
+    (search lent_is, search (item-small, ends-within))
 
 pub returns-then-removed : goal.returns-then-removed
-returns-then-removed c = (search gone-measured, search rules)
+returns-then-removed g c =
+    let t = hit-some _ _ _ _ _ c.hit.ensures _ (search rules) _ c.made-e.ensures in
+    (search gone-measured, search rules)
 
-pub returns-else-removed : goal.returns-else-removed
-returns-else-removed c = (search kept-measured, search rules)
+pub returns : goal.returns
+returns g c =
+    let t = hit-some _ _ _ _ _ c.hit.ensures _ (search rules) _ c.made-e.ensures in
+    (search kept-measured, search rules)

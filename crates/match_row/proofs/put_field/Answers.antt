@@ -4,10 +4,10 @@ use Rattle.match_row.proofs.Kept.{field-small, lent_is}
 use Rattle.match_row.proofs.put_field.Goals as goal
 
 pub put_row-requires : goal.put_row-requires
-put_row-requires c = (search lent_is, search (field-small, field-within), search stands-room)
+put_row-requires g c = (search lent_is, search (field-small, field-within), search stands-room)
 
 pub returns-in-None : goal.returns-in-None
-returns-in-None c = absurd (search field-some)
+returns-in-None g c = absurd (search field-some)
 
 pub returns-in-Some : goal.returns-in-Some
-returns-in-Some c = search stands-put
+returns-in-Some g c = search stands-put

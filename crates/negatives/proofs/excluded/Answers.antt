@@ -6,8 +6,8 @@ use Rattle.negatives.proofs.excluded.Goals as goal
 pub loop-k-init : goal.loop-k-init
 loop-k-init c = (omega arith, refl)
 
-pub negative_at-n-requires : goal.negative_at-n-requires
-negative_at-n-requires c = search asking-room
+pub negative_at-requires : goal.negative_at-requires
+negative_at-requires c = search asking-room
 
 pub matches-requires : goal.matches-requires
 matches-requires c = search asking-within
