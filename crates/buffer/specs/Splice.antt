@@ -7,8 +7,8 @@ unfoldable pub splice : Text → ℕ → Text → Text
 splice d at s = take at d ++ (s ++ drop (at + length s) d)
 
 -- the buffer d has room for s from the place `at` on
-abbrev pub Room : Text → ℕ → Text → Type 0
-Room d at s = at + length s ≤ length d
+abbrev pub RoomFor : Text → ℕ → Text → Type 0
+RoomFor d at s = at + length s ≤ length d
 
 -- what comes of putting s into the buffer d from the place `at` on: the buffer after it, and the place after s
 abbrev pub Puts : Text → ℕ → Text → Text → ℕ → Type 0

@@ -3,7 +3,7 @@
 
 ghost use Rattle.std.specs.Prelude.{◌≡◌, [], ◌∷◌, ◌+◌, ◌<◌, length};
 ghost use Rattle.meaning.specs.Bytes.{lower_byte, lower};
-ghost use Rattle.buffer.specs.Splice.{splice, Room, Puts};
+ghost use Rattle.buffer.specs.Splice.{splice, RoomFor, Puts};
 
 mod copy;
 pub mod written;
@@ -12,7 +12,7 @@ use copy::{put_by_bytes, put_by_eights, put_by_fours};
 
 // Writes src into dst at a place, and answers the place after it.
 pub fn put(dst: &mut [u8], at: usize, src: &[u8]) -> usize
-    requires { Room dst.old at src.now }
+    requires { RoomFor dst.old at src.now }
     ensures { Puts dst.old at src.now dst.new result }
 {
     let n = src.len();
@@ -43,7 +43,7 @@ fn lower_byte(b: u8) -> u8
 
 // Writes src in lower case into dst at a place, and answers the place after it.
 pub fn put_lower(dst: &mut [u8], at: usize, src: &[u8]) -> usize
-    requires { Room dst.old at src.now }
+    requires { RoomFor dst.old at src.now }
     ensures { Puts dst.old at (lower src.now) dst.new result }
 {
     for (i, b) in src.iter().enumerate() {

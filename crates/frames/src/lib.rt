@@ -6,7 +6,7 @@ ghost use Rattle.meaning.specs.Bytes.{any, same};
 ghost use Rattle.meaning.specs.Limits.{spec_list_bytes};
 ghost use Rattle.meaning.specs.Number.{text_bytes, record_bytes};
 ghost use Rattle.meaning.specs.Prefix.{candidates};
-ghost use Rattle.buffer.specs.Splice.{Room, Puts};
+ghost use Rattle.buffer.specs.Splice.{RoomFor, Puts};
 ghost use Rattle.frames.specs.Frames.{frame_at, candidate, adds};
 
 // How many frames there are.
@@ -69,7 +69,7 @@ fn candidate_size(k: usize, name: &[u8]) -> usize
 
 // Candidate number k of a name, written from `at` on; the place after it.
 pub fn put_candidate(out: &mut [u8], at: usize, k: usize, name: &[u8]) -> usize
-    requires { (k < 6) × Room out.old at (candidate k name.now) }
+    requires { (k < 6) × RoomFor out.old at (candidate k name.now) }
     ensures { Puts out.old at (candidate k name.now) out.new result }
 {
     let f = frame_of(k);
@@ -89,7 +89,7 @@ pub fn record_size(k: usize, name: &[u8]) -> usize
 
 // Candidate number k as a record of a prefix list, written from `at` on; the place after it.
 pub fn put_record(out: &mut [u8], at: usize, k: usize, name: &[u8]) -> usize
-    requires { (k < 6) × (length name.now ≤ spec_list_bytes) × Room out.old at (text_bytes (candidate k name.now)) }
+    requires { (k < 6) × (length name.now ≤ spec_list_bytes) × RoomFor out.old at (text_bytes (candidate k name.now)) }
     ensures { Puts out.old at (text_bytes (candidate k name.now)) out.new result }
 {
     let i = number::put(out, at, candidate_size(k, name));
@@ -110,7 +110,7 @@ pub fn candidates_size(name: &[u8]) -> usize
 
 // The candidates of a name as a prefix list, written from `at` on; the place after it.
 pub fn put_candidates(out: &mut [u8], at: usize, name: &[u8]) -> usize
-    requires { (length name.now ≤ spec_list_bytes) × Room out.old at (record_bytes (candidates name.now)) }
+    requires { (length name.now ≤ spec_list_bytes) × RoomFor out.old at (record_bytes (candidates name.now)) }
     ensures { Puts out.old at (record_bytes (candidates name.now)) out.new result }
 {
     let mut i = at;

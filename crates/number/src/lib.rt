@@ -3,7 +3,7 @@
 
 ghost use Rattle.std.specs.Prelude.{◌≡◌, ◌<◌, ◌≤◌, length};
 ghost use Rattle.meaning.specs.Number.{number_bytes};
-ghost use Rattle.buffer.specs.Splice.{Room, Puts};
+ghost use Rattle.buffer.specs.Splice.{RoomFor, Puts};
 ghost use Rattle.meaning.specs.Limits.{largest_number};
 ghost use Rattle.number.specs.Reading.{found_at, number_at, after_one, after_two};
 
@@ -82,7 +82,7 @@ pub fn size(n: usize) -> usize
 
 // `n` written from `at` on; the place after it.
 pub fn put(out: &mut [u8], at: usize, n: usize) -> usize
-    requires { (n ≤ largest_number) × Room out.old at (number_bytes n) }
+    requires { (n ≤ largest_number) × RoomFor out.old at (number_bytes n) }
     ensures { Puts out.old at (number_bytes n) out.new result }
 {
     let mut i = at;

@@ -3,7 +3,7 @@
 
 ghost use Rattle.std.specs.Prelude.{◌≡◌, ◌+◌, ◌≤◌, length};
 ghost use Rattle.meaning.specs.Limits.{spec_bytes};
-ghost use Rattle.buffer.specs.Splice.{Room, Puts};
+ghost use Rattle.buffer.specs.Splice.{RoomFor, Puts};
 ghost use Rattle.parse.specs.Places.{Within};
 ghost use Rattle.refspec.specs.Instructions.{side_text};
 
@@ -23,7 +23,7 @@ pub fn side_size(spec: &[u8], side: Side) -> usize
 
 // Writes the text of a side, and answers the place after it.
 pub fn put_side(out: &mut [u8], at: usize, spec: &[u8], side: Side) -> usize
-    requires { Within (length spec.now) side × Room out.old at (side_text spec.now side) }
+    requires { Within (length spec.now) side × RoomFor out.old at (side_text spec.now side) }
     ensures { Puts out.old at (side_text spec.now side) out.new result }
 {
     match side {
