@@ -1,7 +1,9 @@
--- The numbers of a side tell it again.
-use borrow.Author.Rules.{rules}
-use Rattle.sides.proofs.Told.{side-told}
+-- `sides::SideNumbers::of` meets its contract: the numbers of a side tell it again, and a part of a spec list stands within it.
+use Rattle.sides.proofs.Told.{at_small, len-small, side-told}
 use Rattle.sides.proofs.SideNumbers.of.Goals as goal
 
-pub returns : goal.returns
-returns c = rw (c.side_kind.ensures, c.side_at.ensures, c.side_len.ensures) (search rules, side-told c.args.side)
+pub narrow-requires : goal.narrow-requires
+narrow-requires c = search at_small
+
+pub narrow-requires-in-Part : goal.narrow-requires-in-Part
+narrow-requires-in-Part c = search len-small

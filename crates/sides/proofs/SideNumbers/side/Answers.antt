@@ -1,6 +1,6 @@
--- `sides::side_from` meets its contract: each arm is one number.
+-- `sides::SideNumbers::side` meets its contract: each arm is one number.
 use Rattle.sides.proofs.Told.{side-one, side-rest}
-use Rattle.sides.proofs.side_from.Goals as goal
+use Rattle.sides.proofs.SideNumbers.side.Goals as goal
 
 pub returns-in-1 : goal.returns-in-1
 returns-in-1 c = search side-one
