@@ -1,4 +1,5 @@
 // The prefixes that a spec yields, written as a prefix list. Port of `expand_prefixes` in the crate's spec.rs.
+// As it is: (a) an operation is the C interface's number here; it is handed on as it stands to `parse`, which asks question 18 of it.
 #![tactic(auto)]
 
 ghost use Rattle.std.specs.Prelude.{◌≡◌, [], ◌∷◌, ◌≤◌, length};

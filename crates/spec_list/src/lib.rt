@@ -1,4 +1,5 @@
 // Reading a spec list: the questions in order, each record in turn, into a table of records by value.
+// As it is: (a) an operation is the C interface's number here; it is handed on as it stands to `parse`, which asks question 18 of it.
 #![tactic(auto)]
 
 ghost use Rattle.std.specs.Prelude.{◌≡◌, ◌+◌, ◌≤◌, length};
