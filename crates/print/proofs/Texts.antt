@@ -3,7 +3,6 @@ use mathlib.Core.Path.{◌≡◌, ap}
 use mathlib.Core.List.{[], ◌∷◌, ◌++◌}
 use Prim.Native.Nat.{ℕ, ◌+◌, ◌*◌, ◌/◌, ◌%◌, ◌<◌, ◌≤◌}
 use native.Mathlib.Omega.{arith}
-use borrow.Author.Tests.{lt-ltb, le-ltb}
 use mir.Val.{Fits}
 use mir.Syntax.{w64}
 use lib.ListN.{length, get_or, drop, length-append}
@@ -16,13 +15,6 @@ use Rattle.buffer.proofs.Pairs.{pair-second, pair_put, pair_end}
 use Rattle.buffer.proofs.Threes.{three-put}
 use Rattle.buffer.proofs.Writing.{Writing, writing-starts, writing_more, written-place, written-whole}
 use Rattle.print.specs.Lines.{coded}
-
--- a capital digit
-pub digit_low : (n : ℕ) → n < 10 → 48 + n ≡ capital_digit n
-digit_low n h = rw (lt-ltb n 10 h)
-
-pub digit-high : (n : ℕ) → 10 ≤ n → 55 + n ≡ capital_digit n
-digit-high n h = rw (le-ltb n 10 h)
 
 -- `%` and two digits, one after the other
 pub code_put :

@@ -87,6 +87,7 @@ fn kind_word(kind: usize) -> &'static [u8]
 }
 
 // Writes the word for a kind and a tab, and answers the place after them.
+// As it is: a number, as in `Row`.
 fn put_kind(out: &mut [u8], at: usize, kind: usize) -> usize
     requires { at + length (with_tab (shown_kind kind)) ≤ length out.old }
     ensures { (out.new ≡ splice out.old at (with_tab (shown_kind kind))) × (result ≡ at + length (with_tab (shown_kind kind))) }
@@ -96,6 +97,7 @@ fn put_kind(out: &mut [u8], at: usize, kind: usize) -> usize
 }
 
 // Writes item, spec and kind, and answers the place after them.
+// As it is: the kind is a number, as in `Row`.
 fn put_start(out: &mut [u8], at: usize, item: usize, spec: usize, kind: usize) -> usize
     requires { at + length (line_start item spec kind) ≤ length out.old }
     ensures { (out.new ≡ splice out.old at (line_start item spec kind)) × (result ≡ at + length (line_start item spec kind)) }

@@ -7,7 +7,7 @@ use mathlib.Core.Logic.{◌↔◌}
 use mathlib.Core.List.{[], ◌∷◌, ◌++◌}
 use mathlib.Core.Option.{Option, none, some}
 use lib.ListN.{length, get_or, take, drop}
-use Rattle.meaning.specs.Bytes.{Text, bytes, same}
+use Rattle.meaning.specs.Bytes.{Text, same}
 use Rattle.meaning.specs.Spec.{accepted, refused, Spec, read_spec}
 use Rattle.meaning.specs.Instruction.{canonical_text}
 use Rattle.meaning.specs.Prefix.{name_prefix, prefix, prefix_of, expand_prefixes}
@@ -20,7 +20,7 @@ use Rattle.refusal.specs.declared.Refusal.{Refusal}
 use Rattle.refusal.specs.Numbers.{number_of}
 use Rattle.parse.specs.declared.types.RefSpec.{RefSpec}
 use Rattle.parse.specs.Places.{part_at, side_meant, Within, spec_meant, parsed}
-use Rattle.parse.proofs.Parts.{part_of, part_length}
+use Rattle.parse.proofs.Parts.{part_length}
 use Rattle.parse.proofs.Answers.{read-accepted, read-refused, read-within}
 use Rattle.refspec.specs.declared.instruction.Instruction.{Instruction}
 use Rattle.refspec.specs.Instructions.{instruction_meant, instruction_places, instructed_by, instructed_places}
@@ -28,21 +28,12 @@ use Rattle.refspec.specs.Prefixes.{remote_place, prefix_at, prefix_place, prefix
 use Rattle.refspec.proofs.Instructions.{instruction-meant}
 use Rattle.refspec.proofs.Fronts.{IsFront, prefix-front, prefix-meant, remote-meant, remote-within}
 use Rattle.std.specs.Prelude as std
-use Rattle.recorded.specs.Record.{sized, flag_byte, kind_byte, force_byte, instruction_bytes, prefix_bytes, prefixes_bytes, answer_bytes, answer_record, IsRecord}
+use Rattle.recorded.specs.Record.{sized, instruction_bytes, prefix_bytes, prefixes_bytes, answer_bytes, answer_record, IsRecord}
 use Rattle.recorded.specs.Field.{field_at, TextFound, Instructs}
 use Rattle.recorded.proofs.Fields.{field-within, field_both, field-first, sized-once}
-use Rattle.recorded.proofs.Texts.{text_at_lem, text-long}
-use Rattle.std.specs.Int.{from_bool}
+use Rattle.recorded.proofs.Texts.{text_at_lem}
 
 -- ---- the instruction
-
-pub instruction-found : (s : Text) (at : ℕ) (i : Instruction) (k f : ℕ) (b : Bool) → ((t : Text) → k ≡ kind_byte (instruction_meant t i)) → ((t : Text) → flag_byte b ≡ force_byte (instruction_meant t i)) → f ≡ from_bool b
-    → (r : std.Option ℕ) → r ≡ field_at s at (1 ∷ k ∷ f ∷ []) → (t : Text) → r ≡ field_at s at (instruction_bytes (instruction_meant t i))
-instruction-found s at i k f b ek ef e r h t = rw (← ek t, ← ef t, ← (e ∙ from_bool-flag b)) h
-  where
-    from_bool-flag : (b : Bool) → from_bool b ≡ flag_byte b
-    from_bool-flag true = refl
-    from_bool-flag false = refl
 
 -- ---- the prefix
 
@@ -54,17 +45,6 @@ module _ (s : Text) (at : ℕ) where
 
     pub found-no-mark : r ≡ std.None → std.None ≡ field_at s at (1 ∷ sized want)
     found-no-mark q = field-first s at (1 ∷ []) r e q (sized want)
-
-  -- the arms of a `match` on a side
-  module _ (t : Text) (side : Side) (r : std.Option ℕ) where
-    pub found-absent-side : side ≡ Absent → r ≡ field_at s at (0 ∷ []) → r ≡ field_at s at (prefix_bytes (side_meant t side))
-    found-absent-side e f = rw e f
-
-    pub found-part-side : (start n : ℕ) → side ≡ Part start n → r ≡ field_at s at (1 ∷ sized (take (start + n - start) (drop start t))) → r ≡ field_at s at (prefix_bytes (side_meant t side))
-    found-part-side start n e f = rw e (rw (part_of t start n) at f)
-
-    pub found-head-side : side ≡ Head → r ≡ field_at s at (1 ∷ sized (bytes "HEAD")) → r ≡ field_at s at (prefix_bytes (side_meant t side))
-    found-head-side e f = rw e f
 
 -- a prefix stands within the spec
 front-within : (t : Text) (at n : ℕ) (o : Option Text) → at + n ≤ length t → IsFront (part_at t at n) o → Within (length t) (prefix_at at o)
@@ -215,9 +195,6 @@ module _ (told : Text) where
 
       after : drop 1 told ≡ sized spec ++ drop end told
       after = (text_at_lem told 1 p end fp ep).stands.is
-
-      pub spec-long : 3 ≤ end
-      spec-long = text-long told 1 p end fp ep
 
       -- the operation, the spec and the answer
       pub record-whole : (op : ℕ) (b : Bool) → 1 ≤ length told → op ≡ get_or told 0 0 → b ≡ same (answer_bytes op (read_spec op (take (end - 3) (drop 3 told)))) (drop end told) → (b ≡ true) ↔ IsRecord told

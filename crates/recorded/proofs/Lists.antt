@@ -27,10 +27,6 @@ use Rattle.recorded.proofs.Fields.{append_left, begins-own, field-missed, field-
 -- ---- one text of the list
 
 module _ (s : Text) (at : ℕ) (list : Text) (from n : ℕ) where
-  -- it goes beyond the list
-  pub passed_none : from ≤ length list → length list - from < n → PassedText s at list from n None
-  passed_none h k g = absurd (omega arith)
-
   module _ (r : Option ℕ) (e : r ≡ field_at s at (sized (take (from + n - from) (drop from list)))) where
     part : r ≡ field_at s at (sized (take n (drop from list)))
     part = rw (part_of list from n) at e
@@ -123,9 +119,6 @@ none_left [] e = refl
 none_left (u ∷ us) e = absurd (omega (arith, text-within u (each us text_bytes)))
 
 module _ (s : Text) (start : ℕ) (list : Text) (l : List Text) where
-  pub passing-starts : start < length s → list ≡ record_bytes l → Passing s start list l (start + 1) 0 0
-  passing-starts h e = record { done = []; left = l; all = refl; rest = e; count = refl; stands = record { is = refl; within = omega arith } }
-
   module _ (next at k : ℕ) (p : Passing s start list l next at k) where
     passing-more : (n a : ℕ) → length list ≤ largest_number → BothRead s next list at n a → Passing s start list l n a (k + 1)
     passing-more n a h b =

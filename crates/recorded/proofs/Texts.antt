@@ -57,14 +57,7 @@ module _ (s : Text) (at : ℕ) where
     pub text-long : at + 2 ≤ n
     text-long = text_at_lem.long
 
-    -- its first byte has a number that fits
-    pub text-starts : n < 18446744073709551616 → at + 2 < 18446744073709551616
-    text-starts h = omega (arith, text-long)
-
 -- ---- the front of a buffer
-
-pub front-counts : (out : Text) (n : ℕ) → n ≤ length out → n ≡ length (take n out)
-front-counts out n h = sym (length-take-le n out h)
 
 module _ (s : Text) (at : ℕ) (out : Text) (size : ℕ) where
   -- the buffer has fewer bytes

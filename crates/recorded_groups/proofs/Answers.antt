@@ -1,5 +1,5 @@
 -- A whole answer, and a whole record, from their fields. Assumes nothing.
-use Prim.Native.Nat.{ℕ, ◌+◌, ◌-◌, ◌≤◌, ◌<◌}
+use Prim.Native.Nat.{ℕ, ◌+◌, ◌-◌, ◌≤◌}
 use native.Mathlib.Omega.{arith}
 use mathlib.Core.Path.{◌≡◌, refl, sym, ap, ◌∙◌}
 use mathlib.Core.Bool.{Bool, true, false, false≢true}
@@ -185,11 +185,6 @@ module _ (told : Text) where
   lists-follow g = ap (drop 1) g.is
 
   module _ (p : std.Option ℕ) (fp : TextFound told 1 p) where
-    pub specs-differ : p ≡ std.None → (false ≡ true) ↔ IsGroupRecord told
-    specs-differ e =
-        let f : TextFound told 1 std.None = rw e at fp in
-        ((λ y. absurd (false≢true y)), (λ g. absurd (f g.specs (sized g.items ++ g.answer) (lists-follow g))))
-
     module _ (second : ℕ) (ep : p ≡ std.Some second) where
       abbrev specs : Text
       specs = take (second - 3) (drop 3 told)

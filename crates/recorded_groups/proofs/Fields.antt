@@ -34,10 +34,6 @@ first-long s r n f e = text-long s 1 r n f e
 -- ---- a text that a call writes
 
 module _ (s : Text) (at : ℕ) (out : Text) (refusal size : ℕ) where
-  -- a refusal
-  pub written-refused : (refusal ≡ 0 → ⊥) → WrittenFound s at out refusal size std.None
-  written-refused d z h = absurd (d z)
-
   pub written-found : at ≤ length s → (r : std.Option ℕ) → refusal ≡ 0 → r ≡ front_at s at out size → WrittenFound s at out refusal size r
   written-found h (std.Some next) z f =
       record { passes = z; stands = field-stands s at (sized (take size out)) h (std.Some next) next (front_fits s at out size (std.Some next) f (front-room s at out size (std.Some next) f next refl)) refl }

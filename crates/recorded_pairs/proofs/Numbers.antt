@@ -1,8 +1,8 @@
 -- A number as one byte of a record, and three of them. Assumes nothing.
 use Prim.Native.Nat.{ℕ, ◌+◌, ◌≤◌, ◌<◌}
 use native.Mathlib.Omega.{arith}
-use mathlib.Core.Path.{◌≡◌, refl, sym, ap, ◌∙◌}
-use mathlib.Core.List.{[], ◌∷◌, ◌++◌}
+use mathlib.Core.Path.{◌≡◌, sym, ap, ◌∙◌}
+use mathlib.Core.List.{[], ◌∷◌}
 use lib.ListN.{length, get_or, drop, length-drop}
 use Rattle.meaning.specs.Bytes.{Text}
 use Rattle.text.proofs.Rests.{rest-cons}

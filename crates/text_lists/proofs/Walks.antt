@@ -13,7 +13,7 @@ use Rattle.meaning.specs.Limits.{spec_list_bytes, item_list_bytes}
 use Rattle.meaning.specs.Number.{record_bytes}
 use Rattle.promises.proofs.Reading.{records-append}
 use Rattle.buffer.specs.Splice.{splice}
-use Rattle.buffer.proofs.Splices.{splice-none, splice-next, length-splice}
+use Rattle.buffer.proofs.Splices.{splice-none, splice-next}
 use Rattle.text_lists.specs.Line.{lines_of, Held, held_in}
 use Rattle.text_lists.specs.declared.Lists.{Lists}
 use Rattle.text_lists.specs.declared.RefusedLine.{RefusedLine}
@@ -38,9 +38,6 @@ unfolding record_bytes
 holding-none limit d = record { texts = []; count-is = refl; size_is = refl; small = omega arith; puts = sym (splice-none d 0) }
 
 module _ (limit : ℕ) (d o : Text) (count size : ℕ) (long : limit ≤ length d) (h : Holding limit d o count size) where
-  holding-kept : length o ≡ length d
-  holding-kept = ap length h.puts ∙ length-splice d 0 (record_bytes h.texts) (omega (arith, h.size_is, h.small))
-
   holding-more : (new : List Text) (count₂ size₂ : ℕ) (o₂ : Text) → Grows limit new count size o count₂ size₂ o₂ → Holding limit d o₂ count₂ size₂
   holding-more new count₂ size₂ o₂ g = record {
     texts = h.texts ++ new;

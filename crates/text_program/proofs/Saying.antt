@@ -1,13 +1,13 @@
 -- What is printed piece by piece. Assumes nothing.
-use Rattle.std.proofs.Common.{◌≡◌, ℕ, zero, suc, ◌+◌, ◌-◌, ◌^◌, ◌<◌, ◌≤◌, Bool, true, false, not, List, [], ◌∷◌, ◌++◌, arith, rules, refl, sym, ap, ◌∙◌, subst, length, get_or, take, drop, position, append_assoc, add-one, Option, Some, None, cond, lit<, le_refl}
+use Rattle.std.proofs.Common.{◌≡◌, ℕ, zero, suc, ◌+◌, ◌-◌, ◌^◌, ◌<◌, Bool, true, false, not, [], ◌∷◌, ◌++◌, arith, rules, refl, sym, ap, ◌∙◌, subst, length, get_or, take, drop, position, append_assoc, Option, Some, None, cond, lit<, le_refl}
 use lib.Seq.{take_all}
 use lib.ListN.{length-drop}
 use Rattle.std.specs.List.{position_from}
 use Rattle.std.specs.Fmt.{decimal}
-use Rattle.std.proofs.lemmas.Fmt.{AppendsLastDigit, decimal_from_appends, length-decimal-le}
+use Rattle.std.proofs.lemmas.Fmt.{decimal_from_appends, length-decimal-le}
 use Rattle.std.proofs.lemmas.List.Quantifiers.{position-Some}
 use Rattle.std.proofs.lemmas.Iterator.Adapters.{position_from-zero}
-use Rattle.std.proofs.KnownBytes.{Appends-nil, Appends-trans}
+use Rattle.std.proofs.KnownBytes.{Appends-trans}
 use Rattle.std.specs.Io.KnownBytes.{Appends}
 use Rattle.meaning.specs.Bytes.{Text}
 use Rattle.meaning.specs.Deliveries.{digits, shown_byte}
@@ -57,9 +57,6 @@ pub record Printed (before now : Option Text) (t rest : Text) : Type 0 where
   pub first : Text
   pub appends : Appends before now first
   pub joins : first ++ in_print rest ≡ in_print t
-
-pub printed-none : (a : Option Text) (t : Text) → Printed a a t t
-printed-none a t = record { first = []; appends = Appends-nil a; joins = refl }
 
 -- by as much of the rest as is printed as it is, and the byte after that
 pub printed-more : (a b c d : Option Text) (t rest : Text) (k : ℕ) → Printed a b t rest → position needs_code rest ≡ Some k

@@ -1,14 +1,8 @@
 -- `answer_agrees` meets its contract: the forward listing stands before the rest of the answer. Assumes nothing.
 use Rattle.number.proofs.Round.{octets-of}
 use Rattle.recorded_groups.proofs.Fields.{lhs-found}
-use Rattle.recorded_groups.proofs.Answers.{lhs-within, answer-differs, answer-whole}
-use native.Mathlib.Omega.{arith}
+use Rattle.recorded_groups.proofs.Answers.{answer-differs, answer-whole}
 use Rattle.recorded_groups.proofs.answer_agrees.Goals as goal
-
-pub back_agrees-requires : goal.back_agrees-requires
-back_agrees-requires c =
-    let o = octets-of c.args.told.now c.type_inv.told in
-    (search (lhs-within, lhs-found _ _ _ _ _ _ _ _ _ o c.requires.1 _ c.written_field.ensures _ c.match_lhs-rows.ensures), omega arith)
 
 pub returns-in-Some : goal.returns-in-Some
 returns-in-Some c = let o = octets-of c.args.told.now c.type_inv.told in search (answer-whole, lhs-found)

@@ -5,16 +5,11 @@ use lib.ListN.{length}
 use Rattle.number.proofs.Round.{octets-of}
 use Rattle.recorded.specs.Record.{sized_room}
 use Rattle.recorded_groups.proofs.Fields.{rhs-found, prefixes-found}
-use Rattle.recorded_groups.proofs.Answers.{rhs-within, back-differs, back-there}
+use Rattle.recorded_groups.proofs.Answers.{back-differs, back-there}
 use Rattle.recorded_groups.proofs.back_agrees.Goals as goal
 
 pub returns-in_default : goal.returns-in_default
 returns-in_default c = let o = octets-of c.args.told.now c.type_inv.told in search (back-differs, rhs-found)
-
-pub written_field-requires-2 : goal.written_field-requires-2
-written_field-requires-2 c =
-    let o = octets-of c.args.told.now c.type_inv.told in
-    search (rhs-within, rhs-found _ _ _ _ _ _ _ _ _ o c.requires.1 _ c.written_field.ensures _ c.match_rhs-back.ensures)
 
 pub returns : goal.returns
 returns c =

@@ -1,17 +1,10 @@
 -- `list_field` meets its contract: after k turns the first k texts of the list stand in the record, and the others are left in the list. Assumes nothing.
 use mathlib.Core.Path.{◌∙◌}
-use native.Mathlib.Omega.{arith}
-use Rattle.recorded.proofs.Lists.{passing-starts, turn-within, turn-passes, turn-differs, list-none, passing-fewer, list_done}
+use Rattle.recorded.proofs.Lists.{turn-within, turn-passes, turn-differs, list-none, passing-fewer, list_done}
 use Rattle.recorded.proofs.list.list_field.Goals as goal
 
 pub returns-in_err-many : goal.returns-in_err-many
 returns-in_err-many c l e = c.from_residual.ensures ∙ search (list-none, c.in_err-many.ensures.lookup)
-
-pub loop-k-init : goal.loop-k-init
-loop-k-init c = (omega (arith, c.in_ok-many.ensures.lookup.3.0), λ l e. search (passing-starts, c.in_ok-many.ensures.lookup.3.0))
-
-pub prefix_passes-requires : goal.prefix_passes-requires
-prefix_passes-requires c = omega arith
 
 pub returns-in_err-passed : goal.returns-in_err-passed
 returns-in_err-passed c l e =

@@ -1,9 +1,6 @@
 -- `prefix_at` meets its contract: the text that was found in the record is that part of the list. Assumes nothing.
-use Rattle.recorded.proofs.Lists.{passed_none, passed-text, passed-other}
+use Rattle.recorded.proofs.Lists.{passed-text, passed-other}
 use Rattle.recorded.proofs.list.prefix_at.Goals as goal
-
-pub returns-then-list-from : goal.returns-then-list-from
-returns-then-list-from c = search passed_none
 
 pub returns-in_err-next : goal.returns-in_err-next
 returns-in_err-next c = rw c.from_residual.ensures (search (passed-other, c.in_err-next.was))
