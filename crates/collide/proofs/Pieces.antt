@@ -4,7 +4,6 @@ use native.Mathlib.Omega.{arith}
 use mathlib.Core.Path.{◌≡◌, refl, sym, ap, ◌∙◌}
 use mathlib.Core.Bool.{Bool, true, false, cond}
 use mathlib.Core.List.{[], ◌∷◌, ◌++◌, append-nil}
-use mathlib.Core.Logic.{◌⊎◌, inl, inr}
 use mathlib.Core.Option.{none, some}
 use lib.Dec.{eqb}
 use lib.ListN.{length, take, drop}
@@ -22,10 +21,8 @@ use Rattle.buffer.proofs.Splices.{splice-start}
 use Rattle.buffer.proofs.Lowers.{lower-length}
 use Rattle.glob.proofs.Joined.{and_assoc}
 use Rattle.matcher.specs.declared.types.Lead.{Lead}
-use Rattle.matcher.specs.declared.types.Lead.TheVariants as lead
 use Rattle.matcher.specs.Matching.{led_text, lead_bytes, body_bytes}
-use Rattle.matcher.specs.Sides.{DigitsOf}
-use Rattle.matcher.proofs.Leads.{led-pieces, body-length, lead-short}
+use Rattle.matcher.proofs.Leads.{led-pieces, lead-short}
 
 -- ---- the digits of an object id
 
@@ -40,28 +37,16 @@ module _ (t : Text) (id : object_id t ≡ true) where
       let n : length (lower t) ≡ length d = omega (arith, object-length t id, lower-length t) in
       h ∙ splice-start d (lower t) ∙ ap (λ (r : Text). lower t ++ r) (ap (λ (k : ℕ). drop k d) n ∙ drop-length d) ∙ append-nil (lower t)
 
--- the arm of a `match` on a lead whose digits are taken
-pub digits-taken : (t : Text) (l : Lead) → DigitsOf t l → (l ≡ lead.HeadsDigits) ⊎ (l ≡ lead.Digits) → object_id t ≡ true
-digits-taken t l h (inl e) = rw e at h
-digits-taken t l h (inr e) = rw e at h
-
 -- ---- what leads and what is led
 
 -- the pieces that calls gave have few bytes
 pub first-few : (l : Lead) (a : Text) → a ≡ lead_bytes l → length a ≤ spec_list_bytes
 first-few l a e = omega (arith, ap length e, lead-short l)
 
-pub second-few : (l : Lead) (t b : Text) → b ≡ body_bytes l t → length t ≤ spec_list_bytes → length b ≤ spec_list_bytes
-second-few l t b e h = omega (arith, ap length e, body-length l t)
-
 -- and make the text that is led
 module _ (l : Lead) (t a b : Text) (ea : a ≡ lead_bytes l) (eb : b ≡ body_bytes l t) where
   pieces-led : a ++ b ≡ led_text l t
   pieces-led = rw (ea, eb) (led-pieces l t)
-
-  -- against a pattern
-  pub literal-led : (p q : Text) → literal_in p q (a ++ b) ≡ literal_in p q (led_text l t)
-  literal-led p q = ap (literal_in p q) pieces-led
 
 -- two literals
 pub both-led : (l m : Lead) (t u a b c d : Text) → a ≡ lead_bytes l → b ≡ body_bytes l t → c ≡ lead_bytes m → d ≡ body_bytes m u → cond (same (a ++ b) (c ++ d)) (some (a ++ b)) none ≡ cond (same (led_text l t) (led_text m u)) (some (led_text l t)) none

@@ -1,14 +1,12 @@
 -- What two targets share, by the branches of the code. Assumes nothing.
-use Prim.Native.Nat.{ℕ, suc, ◌+◌, ◌-◌, ◌≤◌}
-use native.Mathlib.Omega.{arith}
+use Prim.Native.Nat.{ℕ, suc, ◌+◌, ◌-◌}
 use native.Mathlib.Numerals.{add-one}
 use mathlib.Core.Path.{◌≡◌, refl, sym, ap, ◌∙◌}
 use mathlib.Core.Bool.{Bool, true, false}
 use mathlib.Core.List.{◌++◌}
 use mathlib.Core.Option.{Option, none, some}
-use lib.ListN.{length, take, drop, length-take, length-drop}
+use lib.ListN.{length, take, drop}
 use Rattle.meaning.specs.Bytes.{Text, begins, ends}
-use Rattle.meaning.specs.Limits.{spec_list_bytes}
 use Rattle.meaning.specs.Match.{Form, literal, pattern}
 use Rattle.meaning.specs.Collide.{longer_start, longer_end, followed_by, shared_by}
 use Rattle.text.proofs.Rests.{rest_part}
@@ -47,14 +45,6 @@ module _ (a c : Text) (o : Option Text) (r : Bool) (e : r ≡ begins a c) where
     pub start-neither : v ≡ false → none ≡ followed_by (longer_start a c) o
     unfolding longer_start
     start-neither h = rw (sym e ∙ n, sym k ∙ h)
-
--- the two parts of a text beside its star have few bytes
-module _ (t : Text) (star : ℕ) (few : length t ≤ spec_list_bytes) where
-  pub before-few : length (take star t) ≤ spec_list_bytes
-  before-few = omega (arith, length-take star t)
-
-  pub after-few : length (take (length t - (star + 1)) (drop (star + 1) t)) ≤ spec_list_bytes
-  after-few = rw (rest_part t (star + 1)) (omega (arith, length-drop (star + 1) t))
 
 rest-after : (t : Text) (star : ℕ) → take (length t - (star + 1)) (drop (star + 1) t) ≡ drop (suc star) t
 rest-after t star = rest_part t (star + 1) ∙ ap (λ (k : ℕ). drop k t) (add-one star)

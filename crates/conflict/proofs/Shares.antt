@@ -151,9 +151,6 @@ module _ (s : Text) (l : List ℕ) (run : OneRun s l) where
     pub firsts-short : length l ≤ row_list_bytes → length (take n e) ≤ row_list_bytes
     firsts-short h = omega (arith, firsts-count)
 
-    pub firsts-pair : length l ≡ 2 → length (take n e) ≤ row_list_bytes
-    firsts-pair h = omega (arith, firsts-count)
-
     whole : 2 ≤ n → run_bytes s l ≡ listed_at s (take n e)
     unfolding run_bytes listed_at
     whole h = part-pieces (rows_at s l) dst (omega (arith, counted)) ∙ rw (rows_are, firsts, firsts-first s l)

@@ -2,11 +2,11 @@
 use mathlib.Core.Path.{◌≡◌, refl, sym, ap, ◌∙◌}
 use mathlib.Core.Bool.{Bool, true, false, cond}
 use mathlib.Core.List.{List, [], ◌∷◌, ◌++◌}
-use Prim.Native.Nat.{ℕ, zero, suc, ◌+◌, ◌-◌, ◌≤◌, ◌<◌}
+use Prim.Native.Nat.{ℕ, zero, suc, ◌+◌, ◌≤◌, ◌<◌}
 use native.Mathlib.Numerals.{add-one}
 use native.Mathlib.Omega.{arith}
 use lib.ListN.{length, take, drop, set, length-set, length-drop}
-use lib.Seq.{take-suc-set, length-take-le}
+use lib.Seq.{take-suc-set}
 use Rattle.meaning.specs.Bytes.{Text, keep, present}
 use Rattle.meaning.specs.Limits.{row_list_bytes}
 use Rattle.meaning.specs.Number.{took, need, give}
@@ -19,14 +19,14 @@ use Rattle.std.specs.Prelude.{Option, None, Some}
 use Rattle.list.specs.declared.cursor.Record.{Record}
 use Rattle.row_fields.specs.declared.RowPlace.{RowPlace}
 use Rattle.row_fields.specs.Fields.{row_meant}
-use Rattle.row_list.specs.Rows.{row_step_at, RowTaken, RowHere}
+use Rattle.row_list.specs.Rows.{RowTaken, RowHere}
 use Rattle.order.specs.Sorting.{Above, Increasing}
 use Rattle.keys.specs.Keys.{row_or, row_at}
 use Rattle.row_list.specs.Lists.{rows_in, RowsRead}
 use Rattle.conflicts.specs.ConflictBytes.{InList}
 use Rattle.conflict.specs.Shared.{rows_at}
 use Rattle.conflicts.specs.Indexed.{has_destination, Given, Indexed, Stored}
-use Rattle.conflicts.proofs.Walks.{At, at-start, next_row, next-destination, moves-on, end_row, taken}
+use Rattle.conflicts.proofs.Walks.{At, at-start, next_row, next-destination, end_row, taken}
 
 -- a place as it is stored
 
@@ -147,9 +147,6 @@ module _ (specs : ℕ) (s : Text) (d₀ d : List ℕ) (at n : ℕ) (m : Filling 
         go (Part a b) i = omega (arith, m.here.short)
         go Head i = i
 
-    pub filling-on : length s - r.next.at < length s - at
-    filling-on = moves-on specs s at m.passed m.here w says r e
-
     more : take (suc m.passed) (rows_in specs s) ≡ take m.passed (rows_in specs s) ++ (row_meant s r.value ∷ [])
     more =
         let q = next_row specs s at m.passed m.here w says r e in
@@ -199,8 +196,3 @@ module _ (specs : ℕ) (s : Text) (d₀ d : List ℕ) (at n : ℕ) (m : Filling 
               under = rw put-there (under-put at r.next.at (take n d) there.on m.under);
             })
         go Head f z = absurd z
-
--- the part that was filled
-module _ (d₀ d : List ℕ) (n : ℕ) (few : n ≤ length d₀) (same : length d ≡ length d₀) where
-  pub filled-count : n ≡ length (take n d)
-  filled-count = sym (length-take-le n d (rw same few))

@@ -1,16 +1,12 @@
 -- A walk over the rows of a list that was read. Assumes nothing.
-use mathlib.Core.Path.{◌≡◌, refl, sym, ap, ◌∙◌, subst}
-use mathlib.Core.Bool.{Bool, true, false, cond}
+use mathlib.Core.Path.{◌≡◌, refl, ap, ◌∙◌, subst}
 use mathlib.Core.List.{List, [], ◌∷◌}
-use Prim.Native.Nat.{ℕ, suc, ◌+◌, ◌-◌, ◌≤◌, ◌<◌}
-use native.Mathlib.Omega.{arith}
+use Prim.Native.Nat.{ℕ, suc, ◌+◌, ◌≤◌}
 use native.Mathlib.Numerals.{add-one}
-use lib.Dec.{ltb}
 use lib.ListN.{length, drop}
 use Rattle.meaning.specs.Bytes.{Text}
 use Rattle.meaning.specs.Limits.{row_list_bytes}
 use Rattle.meaning.specs.Spec.{accepted}
-use Rattle.meaning.specs.Number.{Step, took, no}
 use Rattle.meaning.specs.Rows as meaning
 use Rattle.parse.specs.declared.types.Side.{Side}
 use Rattle.parse.specs.declared.types.Side.TheVariants.{Absent, Part, Head}
@@ -19,8 +15,8 @@ use Rattle.list.proofs.Standing.{drop-rest}
 use Rattle.std.specs.Prelude.{Option, None, Some}
 use Rattle.list.specs.declared.cursor.Record.{Record}
 use Rattle.row_fields.specs.declared.RowPlace.{RowPlace}
-use Rattle.row_fields.specs.Fields.{row_meant, row_place, destination_place}
-use Rattle.row_list.specs.Rows.{placed_row, row_step_at, RowTaken, RowHere}
+use Rattle.row_fields.specs.Fields.{row_meant}
+use Rattle.row_list.specs.Rows.{RowTaken, RowHere}
 use Rattle.list.proofs.Records.{accepted-within}
 use Rattle.row_list.proofs.RowWalks.{RowsLeft, rows_left, rows_next, rows_end, never-head}
 use Rattle.row_list.specs.Lists.{rows_in, RowsRead}
@@ -68,10 +64,6 @@ module _ (specs : ℕ) (s : Text) (at j : ℕ) (a : At specs s at j) (w : Option
 
     pub next-destination : InList (length s) r.value.dst
     next-destination = within-list (length s) r.value.dst taken.dst-within (never-head specs s at r.value r.next.at taken)
-
-    -- the cursor moves on
-    pub moves-on : length s - r.next.at < length s - at
-    moves-on = omega (arith, taken.on, taken.within)
 
   -- at the end no r.value is left
   pub end_row : w ≡ None → drop j (rows_in specs s) ≡ []

@@ -7,17 +7,17 @@ use Prim.Native.Nat.{ℕ, suc, ◌+◌, ◌*◌, ◌≤◌}
 use native.Mathlib.Nat.{zero-add}
 use native.Mathlib.Omega.{arith}
 use mir.Val.{Fits}
-use mir.Syntax.{w8, w64}
+use mir.Syntax.{w8}
 use lib.ListN.{length, get_or, length-append}
 use Rattle.meaning.specs.Bytes.{Text, keep, each}
-use Rattle.meaning.specs.Limits.{row_list_bytes, largest_number}
+use Rattle.meaning.specs.Limits.{row_list_bytes}
 use Rattle.meaning.specs.Spec.{accepted}
 use Rattle.meaning.specs.Rows as meaning
 use Rattle.meaning.specs.Validation.{is_kept, fix_of, fix_bytes}
 use Rattle.promises.proofs.Laws.{each_append}
 use Rattle.buffer.specs.Splice.{splice}
 use Rattle.buffer.proofs.Writing.{Writing, writing-starts, writing-room, writing_more, written-place, written-whole}
-use Rattle.parse.specs.Places.{side_meant, Within}
+use Rattle.parse.specs.Places.{side_meant}
 use Rattle.std.specs.Prelude.{Option, None, Some}
 use Rattle.list.specs.declared.cursor.Record.{Record}
 use Rattle.row_fields.specs.declared.RowPlace.{RowPlace}
@@ -103,12 +103,6 @@ module _ (specs : ℕ) (s : Text) (at : ℕ) (w : Option (Record RowPlace)) (say
   pub row-taken : RowTaken specs s at r.value r.next.at
   row-taken = rw e at says
 
-  pub row-dst : Within (length s) r.value.dst
-  row-dst = row-taken.dst-within
-
-  pub row-spec : r.value.spec ≤ largest_number
-  row-spec = row-taken.spec-small
-
   -- and what is left after it
   module _ (j : ℕ) (rest : List meaning.Row) (k : Walk specs s at j rest) where
     next_row : RowNext specs s r.value r.next.at j rest
@@ -128,9 +122,6 @@ pub counted-starts : (specs : ℕ) (s : Text) (f : meaning.Row → Text) → Row
 counted-starts specs s f r at e = rw e (record { number = 0; rest = rows_in specs s; walk = walk-starts specs s r; done = omega arith; small = omega arith })
 
 module _ (specs : ℕ) (s : Text) (f : meaning.Row → Text) (at size : ℕ) (c : Counted specs s f at size) where
-  pub counted-short : length s ≤ row_list_bytes
-  counted-short = c.walk.short
-
   module _ (w : Option (Record RowPlace)) (says : RowHere specs s at w) where
     module _ (r : Record RowPlace) (e : w ≡ Some r) (n : ℕ) (small : n ≤ length s + fix_numbers_most) where
       pub counted-more : n ≡ length (f (row_meant s r.value)) → Counted specs s f r.next.at (size + n)
@@ -143,9 +134,6 @@ module _ (specs : ℕ) (s : Text) (f : meaning.Row → Text) (at size : ℕ) (c 
             done = omega (arith, c.done, ap length (next-text specs s at w says r e c.number c.rest c.walk f), length-append (f (row_meant s r.value)) (each x.after f));
             small = omega (arith, c.small, c.walk.short);
           }
-
-      pub counted-fits : Fits w64 (size + n)
-      counted-fits = omega (arith, c.small, c.walk.short, c.walk.left.behind, c.walk.left.within)
 
     pub counted-all : w ≡ None → size ≡ length (each (rows_in specs s) f)
     counted-all e = let z : each c.rest f ≡ [] = ap (λ (l : List meaning.Row). each l f) (rows_end specs s at c.number c.rest c.walk.left w says e) in omega (arith, c.done, ap length z)
@@ -177,9 +165,6 @@ fixes-starts specs s r d h at e = written-starts specs s row_fix r d (rw (← fi
 module _ (specs : ℕ) (s : Text) (f : meaning.Row → Text) (d : Text) (at : ℕ) (out : Text) (to : ℕ) (c : WrittenRows specs s f d at out to) where
   pub written-short : length s ≤ row_list_bytes
   written-short = c.walk.short
-
-  pub written-kept : length out ≡ length d
-  written-kept = c.writing.kept
 
   module _ (w : Option (Record RowPlace)) (says : RowHere specs s at w) where
     module _ (r : Record RowPlace) (e : w ≡ Some r) where

@@ -5,10 +5,9 @@ use native.Mathlib.Omega.{arith}
 use mathlib.Core.Path.{◌≡◌, refl, sym, ap, ◌∙◌}
 use mathlib.Core.List.{List, [], ◌∷◌, ◌++◌, append-nil}
 use borrow.Author.Tests.{lt-ltb}
-use lib.ListN.{length, take, drop, length-append, drop_of_length-le}
-use lib.Seq.{take-suc, length-take-le, drop-cons}
+use lib.ListN.{length, take, drop, length-append}
+use lib.Seq.{take-suc, drop-cons}
 use Rattle.meaning.specs.Bytes.{Text, each}
-use Rattle.meaning.specs.Limits.{spec_count}
 use Rattle.meaning.specs.Prefix.{candidates, expand_prefixes}
 use Rattle.parse.specs.declared.types.Side.{Side}
 use Rattle.parse.specs.declared.types.Side.TheVariants.{Absent, Part, Head}
@@ -29,7 +28,7 @@ use Rattle.spec_list.proofs.Groups.{all-within}
 use Rattle.prefixes.specs.declared.entry.Entry.{Entry}
 use Rattle.prefixes.specs.Distinct.{add_all}
 use Rattle.prefixes.specs.Table.{entry_text, entry, side_entry, table_texts, EntryWithin, Entries, Entered}
-use Rattle.prefixes.specs.Group.{group_texts, table_room, Collected}
+use Rattle.prefixes.specs.Group.{group_texts, table_room}
 use Rattle.prefixes.proofs.Distinct.{all_append}
 
 -- ---- the entry of a side
@@ -48,10 +47,6 @@ side-in len (Part at n) w = w
 side-in len Head w = omega arith
 
 -- ---- one after the other
-
--- nothing is entered
-nothing-entered : (specs : Text) (table : List Entry) (c : ℕ) → c ≤ length table → Entries (length specs) (take c table) → Entered specs [] table c table c
-nothing-entered specs table c r h = record { room = r; entries = h; holds = refl; most = omega arith }
 
 -- some texts, and then others
 entered-then : (specs : Text) (a b : List Text) (t : List Entry) (c : ℕ) (t₁ : List Entry) (c₁ : ℕ) (t₂ : List Entry) (c₂ : ℕ) → Entered specs a t c t₁ c₁ → Entered specs b t₁ c₁ t₂ c₂ → Entered specs (a ++ b) t c t₂ c₂
@@ -81,19 +76,7 @@ pub record Adding (specs : Text) (at n : ℕ) (table₀ : List Entry) (count : �
   pub kept : length table ≡ length table₀
   pub lent : length scratch ≡ length scratch₀
 
--- none at the start
-pub adding-starts : (specs : Text) (at n : ℕ) (table : List Entry) (count : ℕ) (scratch : Text) → Entries (length specs) (take count table) → count + 6 ≤ length table → Adding specs at n table count scratch table scratch count 0
-adding-starts specs at n table count scratch h r = record { turn = omega arith; entered = nothing-entered specs table count (omega arith) h; kept = refl; lent = refl }
-
 module _ (specs : Text) (at n : ℕ) (table₀ : List Entry) (count : ℕ) (scratch₀ : Text) (table : List Entry) (scratch : Text) (c k : ℕ) (m : Adding specs at n table₀ count scratch₀ table scratch c k) where
-  -- the table so far
-  pub adding-entries : Entries (length specs) (take c table)
-  adding-entries = m.entered.entries
-
-  -- has room for one more
-  pub adding-room : k < 6 → count + 6 ≤ length table₀ → c < length table
-  adding-room h r = let l : length (candidates (part_at specs at n)) ≡ 6 = refl in omega (arith, m.entered.most, length-take-le k (candidates (part_at specs at n)) (omega arith), m.kept)
-
   -- which is entered
   pub adding-more : k < 6 → (next : List Entry) (lent : Text) (d : ℕ) → Entered specs (entry_text specs (entry k at n) ∷ []) table c next d → length next ≡ length table → length lent ≡ length scratch → Adding specs at n table₀ count scratch₀ next lent d (k + 1)
   adding-more h next lent d x p q = record {
@@ -103,35 +86,14 @@ module _ (specs : Text) (at n : ℕ) (table₀ : List Entry) (count : ℕ) (scra
     lent = q ∙ m.lent;
   }
 
-  -- after the sixth all are
-  pub adding-whole : 6 ≤ k → Entered specs (candidates (part_at specs at n)) table₀ count table c
-  adding-whole h = let e : k ≡ 6 = omega (arith, m.turn) in rw e at m.entered
-
 -- ---- what a spec yields
 
 -- the arms of a `match` on a yield
 module _ (specs : Text) (table : List Entry) (c : ℕ) (y : Yield) where
-  -- nothing
-  pub add_nothing : y ≡ Nothing → c + 6 ≤ length table → Entries (length specs) (take c table) → Entered specs (yield_meant specs y) table c table c
-  add_nothing e r h = rw e (nothing-entered specs table c (omega arith) h)
-
   module _ (side : Side) (is : y ≡ One side) (e : Entry) (q : e ≡ side_entry side) where
-    -- one text stands within the list
-    pub add-one-within : (len : ℕ) → YieldWithin len y → EntryWithin len e
-    add-one-within len w = rw q (side-in len side (rw is at w))
-
     -- and is entered
     pub add-one-is : (after : List Entry) (d : ℕ) → Entered specs (entry_text specs e ∷ []) table c after d → Entered specs (yield_meant specs y) table c after d
     add-one-is after d x = rw is (rw (q, side-text specs side) at x)
-
-  module _ (at n : ℕ) (is : y ≡ Six at n) where
-    -- the candidates' name stands within the list
-    pub add-six-within : (len : ℕ) → YieldWithin len y → at + n ≤ len
-    add-six-within len w = rw is at w
-
-    -- and they are entered
-    pub add-six-is : (after : List Entry) (d : ℕ) → Entered specs (candidates (part_at specs at n)) table c after d → Entered specs (yield_meant specs y) table c after d
-    add-six-is after d x = rw is x
 
 -- a yield has at most six
 yield-few : (specs : Text) (y : Yield) → length (yield_meant specs y) ≤ 6
@@ -209,12 +171,3 @@ module _ (op : ℕ) (specs : Text) (group : List SpecRecord) (table₀ : List En
         kept = p ∙ m.kept;
         lent = l ∙ m.lent;
       }
-
-  -- after the last all is
-  pub collecting-whole : length group ≤ i → length group ≤ spec_count → Collected op specs (group_meant specs group) table c
-  collecting-whole h k = record {
-    room = m.room;
-    entries = m.entries;
-    holds = rw (drop_of_length-le group h) at m.whole;
-    few = omega (arith, m.few, m.turn);
-  }

@@ -25,14 +25,8 @@ use Rattle.list.specs.declared.refused.Refused.{Refused}
 use Rattle.spec_list.specs.declared.Group.{Group}
 use Rattle.spec_list.specs.Group.{group_meant, AllWithin, GroupRead}
 use Rattle.spec_list.proofs.Told.{GroupPassed, group-passed, group-failed}
-use Rattle.prefixes.specs.declared.entry.Entry.{Entry}
-use Rattle.prefixes.specs.Table.{table_texts}
-use Rattle.prefixes.specs.Group.{group_texts, group_prefixes, Collected, MeetsPrefixes}
+use Rattle.prefixes.specs.Group.{group_texts, group_prefixes, MeetsPrefixes}
 use Rattle.prefixes.proofs.Distinct.{distinct-prefixes}
-
--- the list of a table is that of the group whose texts it holds
-pub table_meets : (op : ℕ) (specs : Text) (group : List Spec) (table : List Entry) (c : ℕ) (entry exit : Text) (refusal record_number size : ℕ) → Collected op specs group table c → MeetsOne (accepted (some (record_bytes (table_texts specs (take c table))) ∷ [])) entry exit refusal record_number size → MeetsOne (accepted (some (record_bytes (group_texts op group)) ∷ [])) entry exit refusal record_number size
-table_meets op specs group table c entry exit refusal record_number size x m = rw x.holds at m
 
 -- a group's texts are its prefix list
 texts-are : (op : ℕ) (group : List Spec) → GroupPrefixes op group (group_texts op group)

@@ -3,7 +3,7 @@ use Prim.Native.Nat.{ℕ, suc, ◌+◌, ◌*◌, ◌≤◌, ◌<◌}
 use native.Mathlib.Nat.{eq-or-lt_of_le}
 use native.Mathlib.Numerals.{add-one}
 use native.Mathlib.Omega.{arith}
-use mathlib.Core.Path.{◌≡◌, refl, sym, ap, ◌∙◌}
+use mathlib.Core.Path.{◌≡◌, sym, ap, ◌∙◌}
 use mathlib.Core.Bool.{Bool, true, false}
 use mathlib.Core.List.{List, [], ◌∷◌, ◌++◌, map-append}
 use mathlib.Core.Logic.{◌⊎◌, inl, inr}
@@ -17,7 +17,7 @@ use Rattle.meaning.specs.Limits.{spec_list_bytes}
 use Rattle.meaning.specs.Number.{text_bytes, record_bytes}
 use Rattle.buffer.specs.Splice.{splice}
 use Rattle.buffer.proofs.Splices.{splice-start}
-use Rattle.buffer.proofs.Writing.{Writing, writing-starts, writing-room, writing_more, written-whole}
+use Rattle.buffer.proofs.Writing.{Writing, writing-room, writing_more, written-whole}
 use Rattle.frames.proofs.Candidates.{record_adds}
 use Rattle.prefixes.specs.declared.entry.Entry.{Entry}
 use Rattle.prefixes.specs.Distinct.{add_new}
@@ -92,10 +92,6 @@ pub record Listed (d specs : Text) (l : List Entry) (out : Text) (at i : ℕ) : 
   pub count : i ≤ length l
   pub writing : Writing d 0 (record_bytes (table_texts specs l)) out at (record_bytes (table_texts specs (drop i l)))
 
--- nothing is written at the start
-pub listed-starts : (d specs : Text) (l : List Entry) → length (record_bytes (table_texts specs l)) ≤ length d → Listed d specs l d 0 0
-listed-starts d specs l h = record { count = omega arith; writing = writing-starts d 0 (record_bytes (table_texts specs l)) (omega arith) }
-
 module _ (d specs : Text) (l : List Entry) (out : Text) (at i : ℕ) (m : Listed d specs l out at i) where
   module _ (k : i < length l) (e : Entry) (q : e ≡ get_or l i blank) where
     pieces : record_bytes (table_texts specs (drop i l)) ≡ text_bytes (entry_text specs e) ++ record_bytes (table_texts specs (drop (i + 1) l))
@@ -122,26 +118,10 @@ module _ (d specs : Text) (l : List Entry) (out : Text) (at i : ℕ) (m : Listed
 pub record Looked (specs : Text) (l : List Entry) (t : Text) (i : ℕ) : Type 0 where
   pub left : any (same t) (table_texts specs (drop i l)) ≡ any (same t) (table_texts specs l)
 
--- nothing was asked at the start
-pub looked-starts : (specs : Text) (l : List Entry) (t : Text) → Looked specs l t 0
-looked-starts specs l t = record { left = refl }
-
 module _ (specs : Text) (l : List Entry) (t : Text) (i : ℕ) (m : Looked specs l t i) where
   module _ (k : i < length l) (e : Entry) (q : e ≡ get_or l i blank) (r : Bool) (er : r ≡ same t (entry_text specs e)) where
     turn : (r or any (same t) (table_texts specs (drop (i + 1) l))) ≡ any (same t) (table_texts specs l)
     turn = rw (er, q) (ap (any (same t)) (sym (texts-next specs l i k)) ∙ m.left)
-
-    -- one that is the text is found
-    pub looked-found : r ≡ true → true ≡ any (same t) (table_texts specs l)
-    looked-found h = rw h at turn
-
-    -- another is passed
-    pub looked-more : r ≡ false → Looked specs l t (i + 1)
-    looked-more h = record { left = rw h at turn }
-
-  -- after the last none is
-  pub looked-none : length l ≤ i → false ≡ any (same t) (table_texts specs l)
-  looked-none h = ap (any (same t)) (sym (texts-none specs l i h)) ∙ m.left
 
 -- ---- one entry more
 

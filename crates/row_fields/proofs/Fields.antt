@@ -34,9 +34,6 @@ use Rattle.row_fields.specs.Stages.{after_source, after_kind, after_spec, after_
 
 -- the answers of `destination_after`
 module _ (s : Text) (at n : ℕ) (inside : at ≤ length s) (room : length (meaning.number_bytes n) ≤ at) where
-  pub after-absent : n ≡ 0 → DestinationSays s (at - length (meaning.number_bytes n)) (rows.destination_after n (drop at s)) (Some (record { value = Absent; next = record { at = at } }))
-  after-absent z = rw z (record { reads = refl; spelled = rw z at (let e : at - length (meaning.number_bytes n) + length (meaning.number_bytes n) ≡ at = omega arith in e); within = inside })
-
   pub after-short : (n ≡ 0 → ⊥) → length s - at < n - 1 → DestinationSays s (at - length (meaning.number_bytes n)) (rows.destination_after n (drop at s)) None
   after-short z h = let u : n ≡ suc (n - 1) = omega arith in rw (u, bytes-short s at (n - 1) h)
 
@@ -261,9 +258,6 @@ module _ (s : Text) (bytes : (i : ℕ) → Fits w8 (get_or s i 0)) (at : ℕ) (a
 
 -- the answers of `destination_at`
 module _ (s : Text) (at : ℕ) (a : Option (Record RowPlace)) (says : FrontSays s (rows.read_front (drop at s)) a) where
-  pub no-front : a ≡ None → StretchSpells s (destination_in (rows.read_front (drop at s))) (record { at = 0; len = 0 })
-  no-front e = let t : rows.read_front (drop at s) ≡ meaning.no 13 = rw e at says in rw t (record { is = refl; within = omega arith })
-
   module _ (r : Record RowPlace) (e : a ≡ Some r) where
     taken : FrontTaken s (rows.read_front (drop at s)) r.value r.next.at
     taken = rw e at says

@@ -14,14 +14,13 @@ use Rattle.promises.specs.Facts.{records}
 use Rattle.promises.proofs.Members.{rows_long}
 use Rattle.promises.proofs.Steps.{rows-shrink, list-records}
 use Rattle.std.specs.Prelude.{Option, None, Some, Result, Ok, Err}
-use Rattle.std.specs.Result.{result_unwrap_or}
 use Rattle.refusal.specs.declared.Refusal.{Refusal}
 use Rattle.refusal.specs.declared.Refusal.TheVariants as refusals
 use Rattle.refusal.specs.Numbers.{number_of}
 use Rattle.list.specs.declared.cursor.Record.{Record}
 use Rattle.list.specs.declared.refused.Refused.{Refused}
 use Rattle.list.specs.Checked.{Checked, checked, numbered}
-use Rattle.list.proofs.Readings.{numbered-ok, numbered-err, Reading, reading-starts, reading-whole, reading-refused, reading-more}
+use Rattle.list.proofs.Readings.{numbered-ok, numbered-err, Reading, reading-whole, reading-refused, reading-more}
 use Rattle.row_fields.specs.declared.RowPlace.{RowPlace}
 use Rattle.row_fields.specs.Fields.{row_meant, FrontTaken, FrontSays}
 use Rattle.row_list.specs.Rows.{placed_row, row_step_at, RowTaken, RowTurned, RowSays, found_row, RowHere}
@@ -48,9 +47,6 @@ module _ (specs : ℕ) (s : Text) (at : ℕ) (here : at < length s) (a : Option 
   module _ (r : Record RowPlace) (e : a ≡ Some r) where
     taken : FrontTaken s (rows.read_front (drop at s)) r.value r.next.at
     taken = rw e at says
-
-    pub row_inside : r.value.src.at + r.value.src.len ≤ length s
-    row_inside = taken.src-within
 
     -- a row that was read whole is asked question 16
     asked : (j : ℕ) → rows.row_record specs j (drop at s) ≡ meaning.need 16 (rows.row_passes specs (row_meant s r.value)) (meaning.give (row_meant s r.value)) (drop r.next.at s)
@@ -116,25 +112,13 @@ row-here specs s at (Ok (Some r)) h = h
 row-here specs s at (Ok None) h = inl h
 row-here specs s at (Err e) h = inr (number_of e, h)
 
-pub unwrapped : (w : Result (Option (Record RowPlace)) Refusal) → result_unwrap_or w None ≡ found_row w
-unwrapped (Ok o) = refl
-unwrapped (Err e) = refl
-
 pub row-found : (specs : ℕ) (s : Text) (at : ℕ) (w : Result (Option (Record RowPlace)) Refusal) → w ≡ row_step_at specs s at → RowSays specs s at w → (o : Option (Record RowPlace)) → o ≡ found_row w → (o ≡ found_row (row_step_at specs s at)) × RowHere specs s at o
 row-found specs s at w e h o q = (rw (← e) q, rw q (row-here specs s at w h))
-
--- a row list that is being read
-pub rows_start : (specs : ℕ) (s : Text) (at : ℕ) → at ≡ 0 → Reading (rows.row_record specs) s at 0
-rows_start specs s at e = rw e (reading-starts (rows.row_record specs) (rows-shrink specs) s)
 
 module _ (specs : ℕ) (s : Text) (at : ℕ) (w : Result (Option (Record RowPlace)) Refusal) (says : RowSays specs s at w) (j : ℕ) (m : Result (Option (Record RowPlace)) Refused) (em : m ≡ numbered w j) where
   module _ (o : Option (Record RowPlace)) (eo : m ≡ Ok o) (r : Record RowPlace) (e : o ≡ Some r) where
     stood : RowTaken specs s at r.value r.next.at
     stood = let q = numbered-ok w j (Some r) (sym em ∙ eo ∙ ap (λ (x : Option (Record RowPlace)). Ok x) e) in rw q at says
-
-    -- less of the list is left
-    pub rows-less : length s - r.next.at < length s - at
-    rows-less = omega (arith, stood.on, stood.within)
 
     -- one more row
     pub rows_more : Reading (rows.row_record specs) s at j → Reading (rows.row_record specs) s r.next.at (j + 1)

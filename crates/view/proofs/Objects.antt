@@ -28,26 +28,7 @@ use Rattle.parse.proofs.Parts.{part_length, part-within}
 use Rattle.parse.proofs.Answers.{read-refused, read-accepted, read-places, read-within}
 use Rattle.list.specs.declared.stretch.Stretch.{Stretch}
 use Rattle.view.specs.declared.Part as parts
-use Rattle.view.specs.Places.{text_at, refused_part, accepted_part, digits_at, object_text, side_digits, object_read, spec_digits}
-
--- the answers of `digits`
-module _ (specs : Text) (at n : ℕ) (h : at + n ≤ length specs) (t : Text) (et : t ≡ part_at specs at n) (b : Bool) (e : b ≡ object_id t) where
-  digits-test : object_id (part_at specs at n) ≡ b
-  digits-test = sym (e ∙ ap object_id et)
-
-  pub digits-there : not b ≡ false → accepted_part 1 at n ≡ digits_at at (object_text (part_at specs at n))
-  digits-there y = rw (digits-test ∙ yes b y, part_length specs at n h)
-    where
-      yes : (c : Bool) → not c ≡ false → c ≡ true
-      yes true q = refl
-      yes false q = absurd (let z : ◌≡◌ {A = ℕ} 0 1 = cc in omega arith)
-
-  pub digits-none : not b ≡ true → refused_part 16 0 ≡ digits_at at (object_text (part_at specs at n))
-  digits-none y = rw (digits-test ∙ no_id b y)
-    where
-      no_id : (c : Bool) → not c ≡ true → c ≡ false
-      no_id true q = absurd (let z : ◌≡◌ {A = ℕ} 0 1 = cc in omega arith)
-      no_id false q = refl
+use Rattle.view.specs.Places.{text_at, refused_part, digits_at, object_text, side_digits, object_read, spec_digits}
 
 -- the answers of `side_digits`
 module _ (specs : Text) (start : ℕ) (src : Side) where

@@ -1,4 +1,4 @@
-use Rattle.conflicts.proofs.Filling.{filling-starts, filling-done, filling-few, filling-room, filling-place, filling-side, filling-on, filling-more}
+use Rattle.conflicts.proofs.Filling.{filling-starts, filling-done, filling-few, filling-room, filling-place, filling-side, filling-more}
 use Rattle.conflicts.proofs.index.fill.Goals as goal
 
 pub loop-r-init : goal.loop-r-init
@@ -6,9 +6,6 @@ loop-r-init c = search filling-starts
 
 pub store-n-requires : goal.store-n-requires
 store-n-requires c = (search filling-room, search filling-place, search filling-side)
-
-pub loop-r-smaller : goal.loop-r-smaller
-loop-r-smaller c = search filling-on
 
 pub loop-r-preserved : goal.loop-r-preserved
 loop-r-preserved c = search filling-more
