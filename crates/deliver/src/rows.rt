@@ -2,7 +2,7 @@
 ghost use Rattle.std.specs.Prelude.{◌≡◌, ◌+◌, ◌*◌, ◌≤◌, length};
 ghost use Rattle.meaning.specs.Limits.{program_bytes};
 ghost use Rattle.meaning.specs.Deliveries.{row_line};
-ghost use Rattle.buffer.specs.Splice.{splice};
+ghost use Rattle.buffer.specs.Splice.{RoomFor, Puts};
 ghost use Rattle.parse.specs.Places.{side_meant, Within};
 ghost use Rattle.print.specs.Lines.{lent, lent_size, line_most};
 ghost use Rattle.row_fields.specs.Fields.{row_meant};
@@ -54,8 +54,8 @@ fn row_size(list: &[u8], row: RowPlace) -> usize
 
 // Writes the line of a row, and answers the place after it.
 fn put_row(out: &mut [u8], i: usize, list: &[u8], row: RowPlace) -> usize
-    requires { RowStands list.now row × (i + length (row_line (row_meant list.now row)) ≤ length out.old) }
-    ensures { (out.new ≡ splice out.old i (row_line (row_meant list.now row))) × (result ≡ i + length (row_line (row_meant list.now row))) }
+    requires { RowStands list.now row × RoomFor out.old i (row_line (row_meant list.now row)) }
+    ensures { Puts out.old i (row_line (row_meant list.now row)) out.new result }
 {
     row_in(list, row).put_line(out, i)
 }
@@ -77,8 +77,8 @@ fn rows_size(list: &[u8]) -> usize
 
 // Writes the lines of a row list, and answers the place after them. No row of a list that was accepted is refused.
 fn put_rows(out: &mut [u8], at: usize, list: &[u8]) -> usize
-    requires { Listed list.now × (at + length (row_lines (fetch_rows_in list.now)) ≤ length out.old) }
-    ensures { (out.new ≡ splice out.old at (row_lines (fetch_rows_in list.now))) × (result ≡ at + length (row_lines (fetch_rows_in list.now))) }
+    requires { Listed list.now × RoomFor out.old at (row_lines (fetch_rows_in list.now)) }
+    ensures { Puts out.old at (row_lines (fetch_rows_in list.now)) out.new result }
 {
     let mut c = Cursor::new();
     let mut i = at;

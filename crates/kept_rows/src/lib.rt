@@ -7,7 +7,7 @@ ghost use Rattle.meaning.specs.Bytes.{keep, each, if_given};
 ghost use Rattle.meaning.specs.Limits.{row_list_bytes, largest_number};
 ghost use Rattle.meaning.specs.Rows.{row_list_of};
 ghost use Rattle.meaning.specs.Validation.{is_full, is_kept, fix_of, fix_bytes};
-ghost use Rattle.buffer.specs.Splice.{splice};
+ghost use Rattle.buffer.specs.Splice.{splice, RoomFor, Puts};
 ghost use Rattle.parse.specs.Places.{side_meant, Within};
 ghost use Rattle.row_fields.specs.Fields.{row_meant};
 ghost use Rattle.row_list.specs.Rows.{RowTaken};
@@ -95,8 +95,8 @@ pub fn measure(rows: &[u8], specs: usize) -> Lengths
 
 // Writes the fix of a destination, and answers the place after it; a full one gives none.
 fn put_name_fix(out: &mut [u8], to: usize, name: &[u8], spec: usize) -> usize
-    requires { (length name.now ≤ row_list_bytes) × (spec ≤ largest_number) × (to + length (fix_on spec name.now) ≤ length out.old) }
-    ensures { (out.new ≡ splice out.old to (fix_on spec name.now)) × (result ≡ to + length (fix_on spec name.now)) }
+    requires { (length name.now ≤ row_list_bytes) × (spec ≤ largest_number) × RoomFor out.old to (fix_on spec name.now) }
+    ensures { Puts out.old to (fix_on spec name.now) out.new result }
 {
     if is_full(name) {
         return to;
@@ -108,8 +108,8 @@ fn put_name_fix(out: &mut [u8], to: usize, name: &[u8], spec: usize) -> usize
 
 // Writes the fix that a row gives, by its spec number and its destination, and answers the place after it.
 fn put_fix(out: &mut [u8], to: usize, rows: &[u8], spec: usize, dst: Side) -> usize
-    requires { Within (length rows.now) dst × (length rows.now ≤ row_list_bytes) × (spec ≤ largest_number) × (to + length (fix_for spec (side_meant rows.now dst)) ≤ length out.old) }
-    ensures { (out.new ≡ splice out.old to (fix_for spec (side_meant rows.now dst))) × (result ≡ to + length (fix_for spec (side_meant rows.now dst))) }
+    requires { Within (length rows.now) dst × (length rows.now ≤ row_list_bytes) × (spec ≤ largest_number) × RoomFor out.old to (fix_for spec (side_meant rows.now dst)) }
+    ensures { Puts out.old to (fix_for spec (side_meant rows.now dst)) out.new result }
 {
     match dst {
         Side::Part(at, n) => put_name_fix(out, to, &rows[at..at + n], spec),
@@ -128,7 +128,7 @@ fn put_either(
     row: RowPlace,
     end: usize,
 ) -> Lengths
-    requires { RowTaken specs rows.now at row end × (length rows.now ≤ row_list_bytes) × (to.kept + length (kept_bytes (row_meant rows.now row)) ≤ length out.old) × (to.fixed + length (row_fix (row_meant rows.now row)) ≤ length fixes.old) }
+    requires { RowTaken specs rows.now at row end × (length rows.now ≤ row_list_bytes) × RoomFor out.old to.kept (kept_bytes (row_meant rows.now row)) × RoomFor fixes.old to.fixed (row_fix (row_meant rows.now row)) }
     ensures { (out.new ≡ splice out.old to.kept (kept_bytes (row_meant rows.now row))) × (fixes.new ≡ splice fixes.old to.fixed (row_fix (row_meant rows.now row))) × (result.kept ≡ to.kept + length (kept_bytes (row_meant rows.now row))) × (result.fixed ≡ to.fixed + length (row_fix (row_meant rows.now row))) }
 {
     if is_kept(rows, row.dst) {

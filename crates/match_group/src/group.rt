@@ -3,9 +3,9 @@ ghost use Rattle.std.specs.Prelude.{◌≡◌, [], ◌∷◌, ◌+◌, ◌≤◌
 ghost use Rattle.std.proofs.Math.Option.{some};
 ghost use Rattle.meaning.specs.Spec.{accepted};
 ghost use Rattle.meaning.specs.Buffers.{MeetsOne};
-ghost use Rattle.buffer.specs.Splice.{splice};
+ghost use Rattle.buffer.specs.Splice.{splice, Puts};
 ghost use Rattle.negatives.specs.Negatives.{excluded_by};
-ghost use Rattle.match_row.specs.Asking.{Askable, Put};
+ghost use Rattle.match_row.specs.Asking.{Askable};
 ghost use Rattle.search.specs.Hits.{spec_gives, first_hits};
 ghost use Rattle.search.specs.Noting.{hit_room, PlacesIn, TableReady};
 ghost use Rattle.match_group.specs.Listing.{table_bytes, table_hits, Noted};
@@ -39,7 +39,7 @@ fn put_spec<D: Listing>(
 ) -> usize
     requires { TableReady specs.now table.now turn.scope.specs × PlacesIn items.now places.now turn.scope.names × Askable specs.now negatives.now turn.scope.negatives × (turn.spec < turn.scope.specs) × (turn.scope.names ≤ length hits.old) × (length hits.old ≤ hit_room)
         × (turn.at + length (spec_gives D.back (excluded_by specs.now negatives.now turn.scope.negatives) specs.now table.now items.now places.now turn.scope.names turn.spec) ≤ length out.old) }
-    ensures { Put out.old turn.at (spec_gives D.back (excluded_by specs.now negatives.now turn.scope.negatives) specs.now table.now items.now places.now turn.scope.names turn.spec) out.new result × (length hits.new ≡ length hits.old) }
+    ensures { Puts out.old turn.at (spec_gives D.back (excluded_by specs.now negatives.now turn.scope.negatives) specs.now table.now items.now places.now turn.scope.names turn.spec) out.new result × (length hits.new ≡ length hits.old) }
 {
     let scope = turn.scope;
     let search = Turn {

@@ -7,7 +7,7 @@ use mathlib.Core.Option.{Option, none, some}
 use Prim.Native.Nat.{ℕ, zero, suc, ◌+◌, ◌≤◌, ◌<◌}
 use native.Mathlib.Omega.{arith}
 use lib.ListN.{length}
-use Rattle.buffer.specs.Splice.{splice}
+use Rattle.buffer.specs.Splice.{splice, Puts}
 use Rattle.meaning.specs.Bytes.{Text, each}
 use Rattle.meaning.specs.Spec.{Spec}
 use Rattle.meaning.specs.Rows.{row_bytes}
@@ -19,7 +19,7 @@ use Rattle.match_one.specs.Known.{KnownForward, KnownReverse}
 use Rattle.row.specs.declared.Numbers.{Numbers}
 use Rattle.row.specs.Rows.{row_of_ends}
 use Rattle.match_row.specs.Pairs.{matcher_spec, field_ends, field_numbers, given_row, field_bytes}
-use Rattle.match_row.specs.Asking.{MatcherReady, NameTold, FieldTold, Put}
+use Rattle.match_row.specs.Asking.{MatcherReady, NameTold, FieldTold}
 
 no_bytes : (t : Text) → length t ≡ 0 → t ≡ []
 no_bytes [] h = refl
@@ -87,5 +87,5 @@ module _ (back : Bool) (specs name : Text) (m : Matcher) (i field : ℕ) (r : pr
       pub stands-room : (d : Text) (at : ℕ) → at + length (field_bytes back i field name (matcher_spec specs m)) ≤ length d → at + length (row_bytes (row_of_ends specs name y x)) ≤ length d
       stands-room d at h = rw field_is at h
 
-      pub stands-put : (d : Text) (at : ℕ) (o : Text) (n : ℕ) → o ≡ splice d at (row_bytes (row_of_ends specs name y x)) → n ≡ at + length (row_bytes (row_of_ends specs name y x)) → Put d at (field_bytes back i field name (matcher_spec specs m)) o n
-      stands-put d at o n p q = rw field_is (record { puts = p; ends = q })
+      pub stands-put : (d : Text) (at : ℕ) (o : Text) (n : ℕ) → o ≡ splice d at (row_bytes (row_of_ends specs name y x)) → n ≡ at + length (row_bytes (row_of_ends specs name y x)) → Puts d at (field_bytes back i field name (matcher_spec specs m)) o n
+      stands-put d at o n p q = rw field_is (p, q)

@@ -6,7 +6,6 @@ use Rattle.meaning.specs.Bytes.{Text}
 use Rattle.meaning.specs.Limits.{spec_list_bytes, spec_bytes}
 use Rattle.meaning.specs.Listing as listing
 use Rattle.parse.specs.Places.{side_meant}
-use Rattle.buffer.specs.Splice.{splice}
 use Rattle.matcher.specs.declared.types.Matcher.{Matcher}
 use Rattle.matcher.specs.declared.types.Ends.{Ends}
 use Rattle.matcher.specs.Matching.{ends_meant, EndsWithin, Matches}
@@ -38,8 +37,3 @@ pub record NameTold (back : Bool) (specs : Text) (m : Matcher) (n : ℕ) (e : pr
 pub record FieldTold (back : Bool) (specs : Text) (m : Matcher) (field n : ℕ) (e : prelude.Option Ends) : Type 0 where
   pub told : (name : Text) → length name ≡ n → (r : listing.Ends) → field_ends back (matcher_spec specs m) field name ≡ some r → ends_meant specs name e ≡ some r
   pub within : EndsWithin (length specs) n e
-
--- a text was written from a place on, and ends at another
-pub record Put (out : Text) (at : ℕ) (text : Text) (after : Text) (end : ℕ) : Type 0 where
-  pub puts : after ≡ splice out at text
-  pub ends : end ≡ at + length text

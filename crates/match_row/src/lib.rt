@@ -7,7 +7,8 @@ ghost use Rattle.meaning.specs.Limits.{item_count, spec_count, name_bytes};
 ghost use Rattle.negatives.specs.Negatives.{excluded_by};
 ghost use Rattle.row.specs.Rows.{row_most};
 ghost use Rattle.match_row.specs.Pairs.{matcher_spec, item_bytes, object_bytes, field_numbers, field_bytes};
-ghost use Rattle.match_row.specs.Asking.{Askable, MatcherReady, FieldTold, Put};
+ghost use Rattle.buffer.specs.Splice.{RoomFor, Puts};
+ghost use Rattle.match_row.specs.Asking.{Askable, MatcherReady, FieldTold};
 
 pub mod direction;
 mod gone;
@@ -88,8 +89,8 @@ pub fn put_field<D: Direction>(
     field: usize,
     name: &[u8],
 ) -> usize
-    requires { MatcherReady specs.now m × (i ≤ spec_count) × (field ≤ item_count) × (length name.now ≤ name_bytes) × (field ≡ 0 → length name.now ≡ 0) × (0 < length (field_bytes D.back i field name.now (matcher_spec specs.now m))) × (at + length (field_bytes D.back i field name.now (matcher_spec specs.now m)) ≤ length out.old) }
-    ensures { Put out.old at (field_bytes D.back i field name.now (matcher_spec specs.now m)) out.new result }
+    requires { MatcherReady specs.now m × (i ≤ spec_count) × (field ≤ item_count) × (length name.now ≤ name_bytes) × (field ≡ 0 → length name.now ≡ 0) × (0 < length (field_bytes D.back i field name.now (matcher_spec specs.now m))) × RoomFor out.old at (field_bytes D.back i field name.now (matcher_spec specs.now m)) }
+    ensures { Puts out.old at (field_bytes D.back i field name.now (matcher_spec specs.now m)) out.new result }
 {
     match field_ends::<D>(specs, m, field, name.len()) {
         None => at,

@@ -3,7 +3,7 @@ ghost use Rattle.std.specs.Prelude.{◌≡◌, ◌+◌, ◌≤◌, length};
 ghost use Rattle.meaning.specs.Bytes.{same};
 ghost use Rattle.meaning.specs.Limits.{spec_list_bytes};
 ghost use Rattle.meaning.specs.Number.{text_bytes};
-ghost use Rattle.buffer.specs.Splice.{splice};
+ghost use Rattle.buffer.specs.Splice.{splice, RoomFor, Puts};
 ghost use Rattle.frames.specs.Frames.{longest_frame};
 ghost use Rattle.prefixes.specs.Table.{blank, entry_text, side_entry, EntryWithin};
 
@@ -63,8 +63,8 @@ impl Entry {
 
     // The text as a record, written from i on; the place after it.
     pub(crate) fn put(self, out: &mut [u8], i: usize, specs: &[u8]) -> usize
-        requires { EntryWithin (length specs.now) self × (length specs.now ≤ spec_list_bytes) × (i + length (text_bytes (entry_text specs.now self)) ≤ length out.old) }
-        ensures { (out.new ≡ splice out.old i (text_bytes (entry_text specs.now self))) × (result ≡ i + length (text_bytes (entry_text specs.now self))) }
+        requires { EntryWithin (length specs.now) self × (length specs.now ≤ spec_list_bytes) × RoomFor out.old i (text_bytes (entry_text specs.now self)) }
+        ensures { Puts out.old i (text_bytes (entry_text specs.now self)) out.new result }
     {
         if self.frame < FRAMES {
             put_record(out, i, self.frame, self.name.of(specs))

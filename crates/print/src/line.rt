@@ -5,7 +5,7 @@ ghost use Rattle.std.proofs.Math.Option.{none};
 ghost use Rattle.meaning.specs.Limits.{program_bytes, decimal_digits};
 ghost use Rattle.meaning.specs.Spec.{refused};
 ghost use Rattle.meaning.specs.Deliveries.{decimal, shown, shown_option, shown_item, shown_kind, row_line, header, output};
-ghost use Rattle.buffer.specs.Splice.{splice};
+ghost use Rattle.buffer.specs.Splice.{splice, RoomFor, Puts};
 ghost use Rattle.print.specs.Lines.{ended, with_tab, with_feed, line_start, shown_most, line_most, refusal_most, lent, lent_size, row_meant};
 
 use super::decimal::{decimal_size, put_decimal};
@@ -37,8 +37,8 @@ pub fn header_size() -> usize
 // Writes the header, and answers the place after it.
 #[tactic(auto, unfolding(meaning::specs::Deliveries::header))]
 pub fn put_header(out: &mut [u8], at: usize) -> usize
-    requires { at + length header ≤ length out.old }
-    ensures { (out.new ≡ splice out.old at header) × (result ≡ at + length header) }
+    requires { RoomFor out.old at header }
+    ensures { Puts out.old at header out.new result }
 {
     put(out, at, HEADER)
 }
@@ -46,8 +46,8 @@ pub fn put_header(out: &mut [u8], at: usize) -> usize
 // Writes a number and the byte that ends its field, and answers the place after them.
 // As it is: `put_kind` and `put_text` end a field too, but one function of all three takes a closure, whose contract is longer than they are.
 fn put_number(out: &mut [u8], at: usize, n: usize, end: u8) -> usize
-    requires { at + length (ended end (decimal n)) ≤ length out.old }
-    ensures { (out.new ≡ splice out.old at (ended end (decimal n))) × (result ≡ at + length (ended end (decimal n))) }
+    requires { RoomFor out.old at (ended end (decimal n)) }
+    ensures { Puts out.old at (ended end (decimal n)) out.new result }
 {
     let i = put_decimal(out, at, n);
     put_byte(out, i, end)
@@ -66,8 +66,8 @@ fn item_size(item: usize) -> usize
 // Writes the item field and a tab, and answers the place after them.
 #[tactic(auto, unfolding(crate::specs::Lines::ended))]
 fn put_item(out: &mut [u8], at: usize, item: usize) -> usize
-    requires { at + length (with_tab (shown_item item)) ≤ length out.old }
-    ensures { (out.new ≡ splice out.old at (with_tab (shown_item item))) × (result ≡ at + length (with_tab (shown_item item))) }
+    requires { RoomFor out.old at (with_tab (shown_item item)) }
+    ensures { Puts out.old at (with_tab (shown_item item)) out.new result }
 {
     if item == 0 {
         return put(out, at, b"-\t");
@@ -89,8 +89,8 @@ fn kind_word(kind: usize) -> &'static [u8]
 // Writes the word for a kind and a tab, and answers the place after them.
 // As it is: a number, as in `Row`.
 fn put_kind(out: &mut [u8], at: usize, kind: usize) -> usize
-    requires { at + length (with_tab (shown_kind kind)) ≤ length out.old }
-    ensures { (out.new ≡ splice out.old at (with_tab (shown_kind kind))) × (result ≡ at + length (with_tab (shown_kind kind))) }
+    requires { RoomFor out.old at (with_tab (shown_kind kind)) }
+    ensures { Puts out.old at (with_tab (shown_kind kind)) out.new result }
 {
     let i = put(out, at, kind_word(kind));
     put_byte(out, i, b'\t')
@@ -99,8 +99,8 @@ fn put_kind(out: &mut [u8], at: usize, kind: usize) -> usize
 // Writes item, spec and kind, and answers the place after them.
 // As it is: the kind is a number, as in `Row`.
 fn put_start(out: &mut [u8], at: usize, item: usize, spec: usize, kind: usize) -> usize
-    requires { at + length (line_start item spec kind) ≤ length out.old }
-    ensures { (out.new ≡ splice out.old at (line_start item spec kind)) × (result ≡ at + length (line_start item spec kind)) }
+    requires { RoomFor out.old at (line_start item spec kind) }
+    ensures { Puts out.old at (line_start item spec kind) out.new result }
 {
     let i = put_item(out, at, item);
     let j = put_number(out, i, spec, b'\t');
@@ -109,8 +109,8 @@ fn put_start(out: &mut [u8], at: usize, item: usize, spec: usize, kind: usize) -
 
 // Writes a text and the byte that ends its field, and answers the place after them.
 fn put_text(out: &mut [u8], at: usize, t: &[u8], end: u8) -> usize
-    requires { at + length (ended end (shown t.now)) ≤ length out.old }
-    ensures { (out.new ≡ splice out.old at (ended end (shown t.now))) × (result ≡ at + length (ended end (shown t.now))) }
+    requires { RoomFor out.old at (ended end (shown t.now)) }
+    ensures { Puts out.old at (ended end (shown t.now)) out.new result }
 {
     let i = put_shown(out, at, t);
     put_byte(out, i, end)
@@ -130,8 +130,8 @@ fn destination_size(destination: Option<&[u8]>) -> usize
 // Writes the destination and a line feed, and answers the place after them.
 #[tactic(auto, unfolding(crate::specs::Lines::ended))]
 fn put_destination(out: &mut [u8], at: usize, destination: Option<&[u8]>) -> usize
-    requires { at + length (with_feed (shown_option (lent destination))) ≤ length out.old }
-    ensures { (out.new ≡ splice out.old at (with_feed (shown_option (lent destination.entry)))) × (result ≡ at + length (with_feed (shown_option (lent destination.entry)))) }
+    requires { RoomFor out.old at (with_feed (shown_option (lent destination))) }
+    ensures { Puts out.old at (with_feed (shown_option (lent destination.entry))) out.new result }
 {
     match destination {
         Some(t) => put_text(out, at, t, b'\n'),
@@ -152,8 +152,8 @@ impl<'a> Row<'a> {
 
     // Writes its line, and answers the place after it.
     pub fn put_line(self, out: &mut [u8], at: usize) -> usize
-        requires { at + length (row_line (row_meant self)) ≤ length out.old }
-        ensures { (out.new ≡ splice out.old at (row_line (row_meant self.entry))) × (result ≡ at + length (row_line (row_meant self.entry))) }
+        requires { RoomFor out.old at (row_line (row_meant self)) }
+        ensures { Puts out.old at (row_line (row_meant self.entry)) out.new result }
     {
         let i = put_start(out, at, self.item, self.spec, self.kind);
         let j = put_text(out, i, self.source, b'\t');

@@ -2,7 +2,7 @@
 ghost use Rattle.std.specs.Prelude.{◌≡◌, ◌+◌, ◌<◌, ◌≤◌, length};
 ghost use Rattle.meaning.specs.Limits.{program_bytes};
 ghost use Rattle.meaning.specs.Deliveries.{capital_digit, shown_byte, shown};
-ghost use Rattle.buffer.specs.Splice.{splice};
+ghost use Rattle.buffer.specs.Splice.{splice, RoomFor, Puts};
 ghost use Rattle.print.specs.Lines.{printable, coded, shown_most};
 
 use buffer::put_byte;
@@ -50,8 +50,8 @@ fn put_coded(out: &mut [u8], at: usize, b: u8) -> usize
 // Writes a byte, and answers the place after it.
 #[tactic(auto, unfolding(meaning::specs::Deliveries::shown_byte, crate::specs::Lines::coded))]
 fn put_shown_byte(out: &mut [u8], at: usize, b: u8) -> usize
-    requires { at + length (shown_byte b) ≤ length out.old }
-    ensures { (out.new ≡ splice out.old at (shown_byte b)) × (result ≡ at + length (shown_byte b)) }
+    requires { RoomFor out.old at (shown_byte b) }
+    ensures { Puts out.old at (shown_byte b) out.new result }
 {
     if is_plain(b) {
         return put_byte(out, at, b);
@@ -73,8 +73,8 @@ pub(crate) fn shown_size(t: &[u8]) -> usize
 
 // Writes a text, and answers the place after it.
 pub(crate) fn put_shown(out: &mut [u8], at: usize, t: &[u8]) -> usize
-    requires { at + length (shown t.now) ≤ length out.old }
-    ensures { (out.new ≡ splice out.old at (shown t.now)) × (result ≡ at + length (shown t.now)) }
+    requires { RoomFor out.old at (shown t.now) }
+    ensures { Puts out.old at (shown t.now) out.new result }
 {
     let mut end = put_byte(out, at, b'=');
     for b in t {

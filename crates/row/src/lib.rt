@@ -7,7 +7,7 @@ ghost use Rattle.meaning.specs.Bytes.{or_empty};
 ghost use Rattle.meaning.specs.Limits.{item_count, spec_count};
 ghost use Rattle.meaning.specs.Number.{text_bytes};
 ghost use Rattle.meaning.specs.Rows.{destination_bytes, row_bytes};
-ghost use Rattle.buffer.specs.Splice.{splice};
+ghost use Rattle.buffer.specs.Splice.{RoomFor, Puts};
 ghost use Rattle.matcher.specs.Matching.{row_text_meant, RowTextWithin};
 ghost use Rattle.row.specs.Rows.{ShortTexts, RowWithin, kind_number, row_of_ends, row_numbers, text_most, row_most};
 
@@ -80,8 +80,8 @@ pub fn row_size(specs: &[u8], name: &[u8], numbers: Numbers, ends: Ends) -> usiz
 
 // Writes the three numbers that a row begins with, and answers the place after them.
 fn put_numbers(out: &mut [u8], at: usize, numbers: Numbers) -> usize
-    requires { (numbers.item ≤ item_count) × (numbers.spec ≤ spec_count) × (at + length (row_numbers numbers) ≤ length out.old) }
-    ensures { (out.new ≡ splice out.old at (row_numbers numbers)) × (result ≡ at + length (row_numbers numbers)) }
+    requires { (numbers.item ≤ item_count) × (numbers.spec ≤ spec_count) × RoomFor out.old at (row_numbers numbers) }
+    ensures { Puts out.old at (row_numbers numbers) out.new result }
 {
     let i = number::put(out, at, numbers.item);
     let j = number::put(out, i, numbers.spec);
@@ -90,8 +90,8 @@ fn put_numbers(out: &mut [u8], at: usize, numbers: Numbers) -> usize
 
 // Writes a source, its length before it, and answers the place after it.
 fn put_source(out: &mut [u8], at: usize, specs: &[u8], name: &[u8], source: RowText) -> usize
-    requires { ShortTexts specs.now name.now × RowTextWithin (length specs.now) (length name.now) source × (at + length (text_bytes (or_empty (row_text_meant specs.now name.now source))) ≤ length out.old) }
-    ensures { (out.new ≡ splice out.old at (text_bytes (or_empty (row_text_meant specs.now name.now source)))) × (result ≡ at + length (text_bytes (or_empty (row_text_meant specs.now name.now source)))) }
+    requires { ShortTexts specs.now name.now × RowTextWithin (length specs.now) (length name.now) source × RoomFor out.old at (text_bytes (or_empty (row_text_meant specs.now name.now source))) }
+    ensures { Puts out.old at (text_bytes (or_empty (row_text_meant specs.now name.now source))) out.new result }
 {
     let n = row_text_size(specs, name, source);
     let i = number::put(out, at, n);
@@ -106,8 +106,8 @@ fn put_destination(
     name: &[u8],
     destination: RowText,
 ) -> usize
-    requires { ShortTexts specs.now name.now × RowTextWithin (length specs.now) (length name.now) destination × (at + length (destination_bytes (row_text_meant specs.now name.now destination)) ≤ length out.old) }
-    ensures { (out.new ≡ splice out.old at (destination_bytes (row_text_meant specs.now name.now destination))) × (result ≡ at + length (destination_bytes (row_text_meant specs.now name.now destination))) }
+    requires { ShortTexts specs.now name.now × RowTextWithin (length specs.now) (length name.now) destination × RoomFor out.old at (destination_bytes (row_text_meant specs.now name.now destination)) }
+    ensures { Puts out.old at (destination_bytes (row_text_meant specs.now name.now destination)) out.new result }
 {
     match destination {
         RowText::Absent => number::put(out, at, 0),
@@ -129,8 +129,8 @@ pub fn put_row(
     numbers: Numbers,
     ends: Ends,
 ) -> usize
-    requires { ShortTexts specs.now name.now × RowWithin (length specs.now) (length name.now) numbers ends × (at + length (row_bytes (row_of_ends specs.now name.now numbers ends)) ≤ length out.old) }
-    ensures { (out.new ≡ splice out.old at (row_bytes (row_of_ends specs.now name.now numbers ends))) × (result ≡ at + length (row_bytes (row_of_ends specs.now name.now numbers ends))) }
+    requires { ShortTexts specs.now name.now × RowWithin (length specs.now) (length name.now) numbers ends × RoomFor out.old at (row_bytes (row_of_ends specs.now name.now numbers ends)) }
+    ensures { Puts out.old at (row_bytes (row_of_ends specs.now name.now numbers ends)) out.new result }
 {
     let i = put_numbers(out, at, numbers);
     let j = put_source(out, i, specs, name, ends.source);

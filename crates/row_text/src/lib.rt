@@ -4,7 +4,7 @@
 ghost use Rattle.std.specs.Prelude.{◌≡◌, ◌+◌, ◌≤◌, length};
 ghost use Rattle.meaning.specs.Bytes.{or_empty};
 ghost use Rattle.meaning.specs.Limits.{spec_list_bytes, name_bytes};
-ghost use Rattle.buffer.specs.Splice.{splice};
+ghost use Rattle.buffer.specs.Splice.{splice, RoomFor, Puts};
 ghost use Rattle.parse.specs.Places.{part_at, Within};
 ghost use Rattle.refspec.specs.Instructions.{side_text};
 ghost use Rattle.matcher.specs.Matching.{led_text, filled_text, FilledWithin, row_text_meant, RowTextWithin};
@@ -29,8 +29,8 @@ pub fn row_text_size(specs: &[u8], name: &[u8], made: RowText) -> usize
 
 // Writes the n bytes of s that begin at `from`, and answers the place after them. Mostly the end of a pattern has none.
 fn put_part(out: &mut [u8], at: usize, s: &[u8], from: usize, n: usize) -> usize
-    requires { (from + n ≤ length s.now) × (at + length (part_at s.now from n) ≤ length out.old) }
-    ensures { (out.new ≡ splice out.old at (part_at s.now from n)) × (result ≡ at + length (part_at s.now from n)) }
+    requires { (from + n ≤ length s.now) × RoomFor out.old at (part_at s.now from n) }
+    ensures { Puts out.old at (part_at s.now from n) out.new result }
 {
     if n == 0 {
         at
@@ -41,8 +41,8 @@ fn put_part(out: &mut [u8], at: usize, s: &[u8], from: usize, n: usize) -> usize
 
 // Writes a side that is led, and answers the place after it.
 fn put_led(out: &mut [u8], at: usize, specs: &[u8], lead: Lead, side: Side) -> usize
-    requires { Within (length specs.now) side × (at + length (led_text lead (side_text specs.now side)) ≤ length out.old) }
-    ensures { (out.new ≡ splice out.old at (led_text lead (side_text specs.now side))) × (result ≡ at + length (led_text lead (side_text specs.now side))) }
+    requires { Within (length specs.now) side × RoomFor out.old at (led_text lead (side_text specs.now side)) }
+    ensures { Puts out.old at (led_text lead (side_text specs.now side)) out.new result }
 {
     let t = text_of(specs, b"HEAD", side);
     let i = buffer::put(out, at, lead.bytes());
@@ -55,7 +55,7 @@ fn put_led(out: &mut [u8], at: usize, specs: &[u8], lead: Lead, side: Side) -> u
 
 // Writes a part of the specs, a part of the name and a part of the specs, and answers the place after them.
 fn put_filled(out: &mut [u8], at: usize, specs: &[u8], name: &[u8], f: Filled) -> usize
-    requires { FilledWithin (length specs.now) (length name.now) f × (at + length (filled_text specs.now name.now f) ≤ length out.old) }
+    requires { FilledWithin (length specs.now) (length name.now) f × RoomFor out.old at (filled_text specs.now name.now f) }
     ensures { (out.new ≡ splice out.old at (filled_text specs.now name.now f))
         × (result ≡ at + length (filled_text specs.now name.now f)) }
 {
@@ -66,7 +66,7 @@ fn put_filled(out: &mut [u8], at: usize, specs: &[u8], name: &[u8], f: Filled) -
 
 // Writes the text that a match makes, and answers the place after it.
 pub fn put_row_text(out: &mut [u8], at: usize, specs: &[u8], name: &[u8], made: RowText) -> usize
-    requires { RowTextWithin (length specs.now) (length name.now) made × (at + length (or_empty (row_text_meant specs.now name.now made)) ≤ length out.old) }
+    requires { RowTextWithin (length specs.now) (length name.now) made × RoomFor out.old at (or_empty (row_text_meant specs.now name.now made)) }
     ensures { (out.new ≡ splice out.old at (or_empty (row_text_meant specs.now name.now made)))
         × (result ≡ at + length (or_empty (row_text_meant specs.now name.now made))) }
 {

@@ -3,7 +3,8 @@ ghost use Rattle.std.specs.Prelude.{◌≡◌, ◌+◌, ◌*◌, ◌/◌, ◌%�
 ghost use Rattle.meaning.specs.Bytes.{each};
 ghost use Rattle.meaning.specs.Limits.{spec_count};
 ghost use Rattle.match_row.specs.Pairs.{matcher_spec};
-ghost use Rattle.match_row.specs.Asking.{MatcherReady, Put};
+ghost use Rattle.buffer.specs.Splice.{Puts};
+ghost use Rattle.match_row.specs.Asking.{MatcherReady};
 ghost use Rattle.search.specs.Hits.{hit_stride, field_start, field_size, under_spec, hit_bytes};
 ghost use Rattle.search.specs.Noting.{PlacesIn, TableReady, AllGood};
 
@@ -63,7 +64,7 @@ fn put_hit<D: Direction>(
 ) -> usize
     requires { MatcherReady specs.now m × PlacesIn items.now places.now scope.names × (hit / hit_stride ≤ spec_count) × (hit % hit_stride ≤ scope.names) × (0 < length (under_spec D.back items.now places.now hit (matcher_spec specs.now m)))
         × (at + length (under_spec D.back items.now places.now hit (matcher_spec specs.now m)) ≤ length out.old) }
-    ensures { Put out.old at (under_spec D.back items.now places.now hit (matcher_spec specs.now m)) out.new result }
+    ensures { Puts out.old at (under_spec D.back items.now places.now hit (matcher_spec specs.now m)) out.new result }
 {
     let field = hit % HIT_STRIDE;
     let start = start_of(places, field);
@@ -93,7 +94,7 @@ pub fn put_hits<D: Direction>(
 ) -> usize
     requires { TableReady specs.now table.now scope.specs × PlacesIn items.now places.now scope.names × AllGood D.back specs.now table.now scope.specs items.now places.now scope.names hits.now
         × (at + length (each hits.now (hit_bytes D.back specs.now table.now items.now places.now)) ≤ length out.old) }
-    ensures { Put out.old at (each hits.now (hit_bytes D.back specs.now table.now items.now places.now)) out.new result }
+    ensures { Puts out.old at (each hits.now (hit_bytes D.back specs.now table.now items.now places.now)) out.new result }
 {
     if hits.len() == 0 {
         return at;

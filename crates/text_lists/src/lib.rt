@@ -5,7 +5,7 @@ ghost use Rattle.std.specs.Prelude.{◌≡◌, ◌+◌, ◌≤◌, length, take}
 ghost use Rattle.meaning.specs.Limits.{spec_list_bytes, program_bytes, item_list_bytes};
 ghost use Rattle.meaning.specs.Number.{text_bytes};
 ghost use Rattle.refusal.specs.Numbers.{number_or0};
-ghost use Rattle.buffer.specs.Splice.{splice};
+ghost use Rattle.buffer.specs.Splice.{RoomFor, Puts};
 ghost use Rattle.text_lists.specs.Line.{held_in};
 ghost use Rattle.text_lists.specs.Gather.{room_reason, spec_reason, name_reason, fault_reason, gathered};
 ghost use Rattle.text_lists.specs.Reasons.{reason_number};
@@ -86,8 +86,8 @@ fn ask_name(count: usize, size: usize, t: &[u8]) -> Result<(), Refusal>
 
 // Writes a text with its length before it, and answers the place after it.
 fn put_text(out: &mut [u8], at: usize, t: &[u8]) -> usize
-    requires { (at + length (text_bytes t.now) ≤ length out.old) × (length t.now ≤ program_bytes) }
-    ensures { (out.new ≡ splice out.old at (text_bytes t.now)) × (result ≡ at + length (text_bytes t.now)) }
+    requires { RoomFor out.old at (text_bytes t.now) × (length t.now ≤ program_bytes) }
+    ensures { Puts out.old at (text_bytes t.now) out.new result }
 {
     let n = t.len();
     let i = number::put(out, at, n);
