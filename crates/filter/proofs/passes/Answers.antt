@@ -9,12 +9,6 @@ returns-then-n-f c = search too_short
 pub returns-then-f-n : goal.returns-then-f-n
 returns-then-f-n c = search too_long
 
-pub overflow_add-start : goal.overflow_add-start
-overflow_add-start c = omega (arith, c.requires.0 c.if-f.true)
-
-pub word-requires : goal.word-requires
-word-requires c = search word_room
-
 pub returns-then-f : goal.returns-then-f
 returns-then-f c = search word-decides
 

@@ -4,9 +4,6 @@ use Rattle.filter.proofs.Filters.{reverse-absent, reverse-pattern, reverse-liter
 use borrow.Author.Rules.{rules}
 use Rattle.filter.proofs.reverse_filter.Goals as goal
 
-pub start_filter-requires : goal.start_filter-requires
-start_filter-requires c = (search rules, search target-star-in)
-
 pub returns-in-Absent : goal.returns-in-Absent
 returns-in-Absent c = search reverse-absent
 

@@ -4,8 +4,5 @@ use borrow.Author.Rules.{rules}
 use borrow.Author.Rules.{rules}
 use Rattle.glob.proofs.glob.Goals as goal
 
-pub slice_bounds-capture-end : goal.slice_bounds-capture-end
-slice_bounds-capture-end c = search star-taken
-
 pub returns : goal.returns
 returns c = (search star-at, search star-parts, search rules)

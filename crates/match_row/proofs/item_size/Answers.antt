@@ -13,11 +13,6 @@ removed-requires g c =
     let t = hit-some _ _ _ _ _ c.hit.ensures _ (search rules) _ c.made-e.ensures in
     (search lent_is, search source-within, search rules, search source-short)
 
-pub row_size-requires : goal.row_size-requires
-row_size-requires g c =
-    let t = hit-some _ _ _ _ _ c.hit.ensures _ (search rules) _ c.made-e.ensures in
-    (search lent_is, search (item-small, ends-within))
-
 pub returns-then-removed : goal.returns-then-removed
 returns-then-removed g c =
     let t = hit-some _ _ _ _ _ c.hit.ensures _ (search rules) _ c.made-e.ensures in

@@ -4,9 +4,6 @@ use Rattle.match_row.proofs.Kept.{object-small}
 use borrow.Author.Rules.{rules}
 use Rattle.match_row.proofs.object_size.Goals as goal
 
-pub row_size-requires : goal.row_size-requires
-row_size-requires c = (search nothing_lent, search (object-small, object-ends-within))
-
 pub returns-in-None : goal.returns-in-None
 returns-in-None c = (search object-none, search rules)
 

@@ -3,11 +3,5 @@ use Rattle.matcher_table.proofs.Told.{needle-small, target_small}
 use Rattle.matcher_table.proofs.Tables.{stored}
 use Rattle.matcher_table.proofs.put_matcher.Goals as goal
 
-pub needle_star-requires : goal.needle_star-requires
-needle_star-requires c = search needle-small
-
-pub target_number-requires : goal.target_number-requires
-target_number-requires c = search target_small
-
 pub returns : goal.returns
 returns c = search stored

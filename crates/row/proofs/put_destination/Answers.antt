@@ -3,9 +3,6 @@ use Rattle.row.proofs.Rows.{none-room, none-put, none_end, some-first, some-seco
 use borrow.Author.Rules.{rules}
 use Rattle.row.proofs.put_destination.Goals as goal
 
-pub put-requires : goal.put-requires
-put-requires c = (search rules, search none-room)
-
 pub returns-in-Absent : goal.returns-in-Absent
 returns-in-Absent c = (search none-put, search none_end)
 

@@ -7,11 +7,5 @@ use Rattle.row.proofs.put_numbers.Goals as goal
 pub put-i-requires : goal.put-i-requires
 put-i-requires c = (search rules, search three-first)
 
-pub put-j-requires : goal.put-j-requires
-put-j-requires c = (search rules, search three-second)
-
-pub put-requires : goal.put-requires
-put-requires c = (search rules, search kind-room)
-
 pub returns : goal.returns
 returns c = (search kind-put, search kind-end)

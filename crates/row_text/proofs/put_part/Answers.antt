@@ -5,9 +5,3 @@ use Rattle.row_text.proofs.put_part.Goals as goal
 
 pub returns-then-n-eq0 : goal.returns-then-n-eq0
 returns-then-n-eq0 c = (search no-part-put, search no-part-end)
-
-pub put-requires : goal.put-requires
-put-requires c = search (room_as, part_of)
-
-pub returns-else-n-eq0 : goal.returns-else-n-eq0
-returns-else-n-eq0 c = (search (put_as, part_of), search (end-as, part_of))

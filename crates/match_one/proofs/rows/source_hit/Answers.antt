@@ -6,9 +6,6 @@ use Rattle.match_one.proofs.rows.source_hit.Goals as goal
 pub returns-in-Absent : goal.returns-in-Absent
 returns-in-Absent c = (search nothing-hit, search rules)
 
-pub returns-in-Glob : goal.returns-in-Glob
-returns-in-Glob c = (search glob-hit, search rules)
-
 pub returns-in-FullName : goal.returns-in-FullName
 returns-in-FullName c = (search full-hit, search whole-within)
 

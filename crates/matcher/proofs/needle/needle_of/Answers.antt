@@ -3,9 +3,6 @@ use Rattle.parse.proofs.Parts.{part-within}
 use Rattle.matcher.proofs.Needles.{needle-side, head-negative, head-partial}
 use Rattle.matcher.proofs.needle.needle_of.Goals as goal
 
-pub returns-in-Part : goal.returns-in-Part
-returns-in-Part c = search needle-side
-
 pub returns-in-Head : goal.returns-in-Head
 returns-in-Head c = search head-negative
 

@@ -2,8 +2,5 @@
 use Rattle.matcher.proofs.Needles.{target-side, target-head}
 use Rattle.matcher.proofs.needle.target_of.Goals as goal
 
-pub returns-in-Part : goal.returns-in-Part
-returns-in-Part c = search target-side
-
 pub returns-in-Head : goal.returns-in-Head
 returns-in-Head c = search target-head

@@ -1,6 +1,0 @@
--- The ends are known by the size of the name.
-use Rattle.match_row.proofs.Standing.{known-on}
-use Rattle.match_row.proofs.direction.ForwardDirection.known_ends.Goals as goal
-
-pub returns : goal.returns
-returns c = search known-on
