@@ -11,7 +11,7 @@ use refusal::Refusal;
 
 // A refusal's number or 0, which of the two specs is refused, 1 where they collide, and the bytes written or, beside 17, a length for the
 // buffer. A field without a meaning is 0.
-// As it is: C reads this record, whose fields are numbers of 64 bits.
+// As it is: (a) C reads this record, whose fields are numbers of 64 bits.
 #[repr(C)]
 #[derive(Clone, Copy)]
 pub struct Collision {
@@ -34,7 +34,7 @@ pub(crate) fn none() -> Collision
 }
 
 // The first or the second spec, 1 or 2, is refused.
-// As it is: C reads which of them it is as a number.
+// As it is: (a) C reads which of them it is as a number.
 pub(crate) fn refused(refusal: Refusal, which: u64) -> Collision
     ensures { result ≡ refused_with (number_of refusal) which }
 {

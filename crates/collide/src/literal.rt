@@ -16,7 +16,7 @@ use limits::ID_DIGITS;
 use matcher::types::Lead;
 
 // The digits of an object id in lower case.
-// As it is: there is no heap, so they stand in an array.
+// As it is: (a) there is no heap, so they stand in an array.
 fn lower_digits(t: &[u8]) -> [u8; ID_DIGITS]
     requires { object_id t.now ≡ true }
     ensures { result ≡ lower t.now }

@@ -40,7 +40,7 @@ fn show_pair<W: Write>(to: &mut W, one: Spec, other: Spec) -> io::Result<bool> {
     if c.collides == 0 {
         return Ok(false);
     }
-    // As it is: a number of 64 bits has no From to `usize`, and `try_from` may fail.
+    // As it is: (d) a number of 64 bits has no From to `usize`, and `try_from` may fail.
     say_pair(to, one.number, other.number, &out[..c.length as usize])?;
     Ok(true)
 }
@@ -60,7 +60,7 @@ fn spec_on((number, line): (usize, &[u8])) -> Option<Spec> {
 fn show_each<W: Write>(to: &mut W, s: &[u8]) -> io::Result<bool> {
     let mut some = false;
     let mut lines = Lines::of(s);
-    // As it is: the inner loop goes over a copy of the lines that are left, which a `for` would not lend.
+    // As it is: (d) the inner loop goes over a copy of the lines that are left, which a `for` would not lend.
     while let Some(line) = lines.next() {
         let Some(one) = spec_on(line) else { continue };
         for other in lines.filter_map(spec_on) {

@@ -48,7 +48,7 @@ fn put_source(out: &mut [u8], to: usize, rows: &[u8], p: usize) -> usize
 }
 
 // How many bytes the sources of the rows at places take.
-// As it is, here and below: std has no conversion of a place of 32 bits to an index that cannot fail, so each is by `as`.
+// As it is: (d) here and below, std has no conversion of a place of 32 bits to an index that cannot fail, so each is by `as`.
 pub(crate) fn sources_size(rows: &[u8], places: &[u32]) -> usize
     requires { (length rows.now ≤ row_list_bytes) × (length places.now ≤ row_list_bytes) }
     ensures { (result ≡ length (sources_at rows.now places.now)) × (result ≤ length places.now * conflict_source_most) }
@@ -73,7 +73,7 @@ pub(crate) fn put_sources(out: &mut [u8], start: usize, rows: &[u8], places: &[u
 }
 
 // How many sources there are at places sorted by source, and how many bytes they take, each once.
-// As it is: a step is a run, which ends where the key of its first place does; `chunk_by` asks neighbours, and a `for` has to keep a key.
+// As it is: (d) a step is a run, which ends where the key of its first place does; `chunk_by` asks neighbours, and a `for` has to keep a key.
 pub(crate) fn heads_size(rows: &[u8], places: &[u32]) -> HeadsSize
     requires { (length rows.now ≤ row_list_bytes) × (length places.now ≤ row_list_bytes) }
     ensures { Heads rows.now places.now result }

@@ -1,5 +1,5 @@
 // The index of a row list: the places of its rows that have a destination, sorted by it, so that rows of one destination are a run.
-// As it is: there is no heap, so an index and the scratch of its sort are lent; the index is cut and the scratch lent whole, so that a
+// As it is: (a) there is no heap, so an index and the scratch of its sort are lent; the index is cut and the scratch lent whole, so that a
 // struct of both would be taken apart at each call.
 ghost use Rattle.std.specs.Prelude.{◌≡◌, ◌+◌, ◌*◌, ◌≤◌, ◌<◌, length, take};
 ghost use Rattle.meaning.specs.Limits.{row_list_bytes};
@@ -32,7 +32,7 @@ fn store(index: &mut [u32], n: usize, at: usize, dst: Side) -> usize
 }
 
 // Stores the places of all rows that have a destination, and answers how many there are.
-// As it is: the loop is one of `row_list::each_row`.
+// As it is: (d) the loop is one of `row_list::each_row`.
 fn fill(rows: &[u8], specs: usize, index: &mut [u32]) -> usize
     requires { RowsRead specs rows.now × (length (rows_in specs rows.now) ≤ length index.old) }
     ensures { Indexed specs rows.now (take result index.new) × (result ≤ length index.old) }
@@ -47,7 +47,7 @@ fn fill(rows: &[u8], specs: usize, index: &mut [u32]) -> usize
 }
 
 // How many bytes the conflicts of a sorted index take, run by run. The index is left as it was.
-// As it is: `chunk_by_mut` cuts where neighbours differ and reads no fewer keys, and that its runs make the index again has to be shown.
+// As it is: (d) `chunk_by_mut` cuts where neighbours differ and reads no fewer keys, and that its runs make the index again has to be shown.
 fn sorted_size(rows: &[u8], specs: usize, index: &mut [u32], scratch: &mut [u32]) -> usize
     requires { RowsRead specs rows.now × SortedIndex specs rows.now index.old × (length index.old ≤ row_list_bytes) × HalfRoom index.old scratch.old }
     ensures { (result ≡ length (conflicts_bytes (rows_in specs rows.now))) × (index.new ≡ index.old) }
@@ -63,7 +63,7 @@ fn sorted_size(rows: &[u8], specs: usize, index: &mut [u32], scratch: &mut [u32]
 }
 
 // Writes the conflicts of a sorted index at the start of a buffer, run by run.
-// As it is: as for `sorted_size`.
+// As it is: (d) as for `sorted_size`.
 fn put_sorted(out: &mut [u8], rows: &[u8], specs: usize, index: &mut [u32], scratch: &mut [u32])
     requires { RowsRead specs rows.now × SortedIndex specs rows.now index.old × (length index.old ≤ row_list_bytes) × HalfRoom index.old scratch.old × (length (conflicts_bytes (rows_in specs rows.now)) ≤ length out.old) }
     ensures { out.new ≡ splice out.old 0 (conflicts_bytes (rows_in specs rows.now)) }

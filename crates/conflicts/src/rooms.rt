@@ -27,7 +27,7 @@ pub(crate) const HALF_MANY: usize = MANY / 2;
 
 // The conflicts of a list of at most N rows, of which M are half. Not inlined, so that each index is in a frame of its own: in one frame,
 // every list would take the stack of the longest.
-// As it is: there is no heap, so both are arrays.
+// As it is: (a) there is no heap, so both are arrays.
 #[inline(never)]
 pub(crate) fn put_in_room<const N: usize, const M: usize>(
     out: &mut [u8],

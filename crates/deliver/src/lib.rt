@@ -39,7 +39,7 @@ pub fn print_lists(specs: &[u8], items: &[u8], rows: &mut [u8], out: &mut [u8]) 
     if w.refusal != 0 {
         return put_refusal(out, w.refusal);
     }
-    // As it is: a number of 64 bits has no From to `usize`, and `try_from` may fail.
+    // As it is: (d) a number of 64 bits has no From to `usize`, and `try_from` may fail.
     let n = w.length as usize;
     print_rows(&rows[..n], out)
 }

@@ -67,7 +67,7 @@ fn rows_size(list: &[u8]) -> usize
 {
     let mut c = Cursor::new();
     let mut size = 0;
-    // As it is: a cursor answers the next one with each row, and an iterator over it would be a type with laws of its own.
+    // As it is: (d) a cursor answers the next one with each row, and an iterator over it would be a type with laws of its own.
     while let Some(r) = row_at(c, list, SPEC_COUNT) {
         size += row_size(list, r.value);
         c = r.next;
@@ -82,7 +82,7 @@ fn put_rows(out: &mut [u8], at: usize, list: &[u8]) -> usize
 {
     let mut c = Cursor::new();
     let mut i = at;
-    // As it is: as in `rows_size`.
+    // As it is: (d) as in `rows_size`.
     while let Some(r) = row_at(c, list, SPEC_COUNT) {
         i = put_row(out, i, list, r.value);
         c = r.next;

@@ -4,7 +4,7 @@ ghost use Rattle.meaning.specs.Bytes.{same, begins, ends, present};
 ghost use Rattle.meaning.specs.Match.{capture};
 
 // n is the sum of three numbers.
-// As it is: three lengths may come to more than a number holds, so each is taken away and not added; with
+// As it is: (d) three lengths may come to more than a number holds, so each is taken away and not added; with
 // `a.checked_add(b).and_then(|x| x.checked_add(c)) == Some(n)` two results would be asked for one answer.
 fn is_sum(n: usize, a: usize, b: usize, c: usize) -> bool
     ensures { result ≡ eqb n (a + (b + c)) }
@@ -19,7 +19,7 @@ fn is_sum(n: usize, a: usize, b: usize, c: usize) -> bool
 }
 
 // n is at most the sum of three numbers.
-// As it is: as for `is_sum`.
+// As it is: (d) as for `is_sum`.
 fn at_most_sum(n: usize, a: usize, b: usize, c: usize) -> bool
     ensures { result ≡ leb n (a + (b + c)) }
 {

@@ -35,7 +35,6 @@ fn matcher_for(specs: &[u8], r: RefSpec) -> Matcher
 }
 
 // Notes a spec as number i, and among the k negatives if it is one; how many negatives there are then.
-// As it is: the tables are fixed memory, lent as slices.
 pub fn note(
     specs: &[u8],
     q: SpecRecord,
@@ -53,7 +52,6 @@ pub fn note(
 }
 
 // Notes the specs of a table of records that is lent, each handed to `note`; how many negatives there are.
-// As it is: the tables are fixed memory, lent as slices.
 fn note_specs(
     specs: &[u8],
     records: &[SpecRecord],

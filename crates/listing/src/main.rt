@@ -41,7 +41,7 @@ fn show<W: Write, E: Write>(output: &mut W, errors: &mut E, input: &[u8])
     }
 }
 
-// As it is: each program has a main of its own, and what it does with the text is its own.
+// As it is: (d) each program has a main of its own, and what it does with the text is its own.
 fn main(rt: HostRuntime) {
     let mut input = [0u8; INPUT_ROOM];
     if let Ok(n) = read_text(&mut rt.stdin(), &mut rt.stderr(), &mut input) {

@@ -26,7 +26,6 @@ struct Notes {
 }
 
 // Writes what one spec gives in its turn, by another search for its hits, of which there are no more than names. Answers the place after it.
-// As it is: the tables are fixed memory, lent as slices.
 fn put_spec<D: Listing>(
     out: &mut [u8],
     specs: &[u8],
@@ -62,7 +61,6 @@ fn put_spec<D: Listing>(
 }
 
 // Writes a listing not all of whose hits are noted: what comes first by its hits, and what the specs give, one after the other.
-// As it is: the tables are fixed memory, lent as slices.
 fn put_again<D: Listing>(
     out: &mut [u8],
     specs: &[u8],
@@ -93,7 +91,6 @@ fn put_again<D: Listing>(
 }
 
 // Writes a listing at the start of the buffer: by its hits, or where not all are noted by another search for them.
-// As it is: the tables are fixed memory, lent as slices.
 fn put_listing<D: Listing>(
     out: &mut [u8],
     specs: &[u8],
@@ -120,7 +117,6 @@ fn put_listing<D: Listing>(
 }
 
 // A listing whose hits are noted in a table with room for those of objects, and for those of a spec.
-// As it is: the tables are fixed memory, lent as slices.
 fn list_rows<D: Listing>(
     scope: Scope,
     specs: &[u8],
@@ -159,7 +155,6 @@ fn list_rows<D: Listing>(
 }
 
 // The listing of a group in its tables, with room for hits.
-// As it is: the tables are fixed memory, lent as slices.
 pub(crate) fn list_group<D: Listing>(
     scope: Scope,
     specs: &[u8],
@@ -172,7 +167,7 @@ pub(crate) fn list_group<D: Listing>(
     requires { TableReady specs.now table.now scope.specs × PlacesIn items.now places.now scope.names × Askable specs.now negatives.now scope.negatives }
     ensures { MeetsOne (accepted (some (table_bytes D.back (excluded_by specs.now negatives.now scope.negatives) specs.now table.now scope.specs items.now places.now scope.names) ∷ [])) out.old out.new result.refusal result.record result.length }
 {
-    // As it is: no heap, so a table has the room of its limit.
+    // As it is: (a) no heap, so a table has the room of its limit.
     let mut hits = [0u32; HIT_ROOM];
     list_rows::<D>(
         scope, specs, table, items, places, negatives, &mut hits, out,

@@ -51,7 +51,7 @@ fn list_in<D: Listing>(
     ensures { MeetsOne (listing D.back (group_meant specs.now (take n records)) items.now) out.old out.new result.refusal result.record result.length }
 {
     let count = note_group(specs, records, n, table, negatives);
-    // As it is: no heap, so a table has the room of its limit.
+    // As it is: (a) no heap, so a table has the room of its limit.
     let mut places = [0u16; PLACES_ROOM];
     let names = match read_places(items, &mut places) {
         Ok(names) => names,
@@ -76,9 +76,9 @@ fn list_few<D: Listing>(
     requires { Grouped specs.now records n × (n ≤ few_specs) }
     ensures { MeetsOne (listing D.back (group_meant specs.now (take n records)) items.now) out.old out.new result.refusal result.record result.length }
 {
-    // As it is: no heap, so a table has the room of its limit.
+    // As it is: (a) no heap, so a table has the room of its limit.
     let mut table = [0u16; FEW_TABLE];
-    // As it is: no heap, so a table has the room of its limit.
+    // As it is: (a) no heap, so a table has the room of its limit.
     let mut negatives = [0u16; FEW_NEGATIVES];
     list_in::<D>(specs, records, n, items, &mut table, &mut negatives, out)
 }
@@ -94,9 +94,9 @@ fn list_many<D: Listing>(
     requires { Grouped specs.now records n }
     ensures { MeetsOne (listing D.back (group_meant specs.now (take n records)) items.now) out.old out.new result.refusal result.record result.length }
 {
-    // As it is: no heap, so a table has the room of its limit.
+    // As it is: (a) no heap, so a table has the room of its limit.
     let mut table = [0u16; TABLE];
-    // As it is: no heap, so a table has the room of its limit.
+    // As it is: (a) no heap, so a table has the room of its limit.
     let mut negatives = [0u16; NEGATIVES];
     list_in::<D>(specs, records, n, items, &mut table, &mut negatives, out)
 }

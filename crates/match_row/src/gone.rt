@@ -17,7 +17,6 @@ use refspec::side::text_of;
 use row_text::{put_row_text, row_text_size};
 
 // A negative matches a source that is put together in `scratch`.
-// As it is: the tables are fixed memory, lent as slices.
 fn put_removed(
     specs: &[u8],
     name: &[u8],
@@ -35,18 +34,16 @@ fn put_removed(
 }
 
 // A negative matches a source that stands nowhere in one piece and in no three.
-// As it is: the tables are fixed memory, lent as slices.
 fn text_removed(specs: &[u8], name: &[u8], source: RowText, negatives: &[u16], count: usize) -> bool
     requires { ShortTexts specs.now name.now × RowTextWithin (length specs.now) (length name.now) source × Askable specs.now negatives.now count × (length (or_empty (row_text_meant specs.now name.now source)) ≤ mapped_bytes) }
     ensures { result ≡ excluded_by specs.now negatives.now count (or_empty (row_text_meant specs.now name.now source)) }
 {
-    // As it is: no heap, so there is room for the longest source.
+    // As it is: (a) no heap, so there is room for the longest source.
     let mut scratch = [0; MAPPED_BYTES];
     put_removed(specs, name, source, negatives, count, &mut scratch)
 }
 
 // A negative matches a side that is led; one that stands as it is is not copied.
-// As it is: the tables are fixed memory, lent as slices.
 fn led_removed(
     specs: &[u8],
     name: &[u8],
@@ -65,7 +62,6 @@ fn led_removed(
 }
 
 // A negative matches a pattern with a capture in place of its star, piece by piece.
-// As it is: the tables are fixed memory, lent as slices.
 fn filled_removed(specs: &[u8], name: &[u8], f: Filled, negatives: &[u16], count: usize) -> bool
     requires { FilledWithin (length specs.now) (length name.now) f × ShortTexts specs.now name.now × Askable specs.now negatives.now count }
     ensures { result ≡ excluded_by specs.now negatives.now count (filled_text specs.now name.now f) }
@@ -81,7 +77,6 @@ fn filled_removed(specs: &[u8], name: &[u8], f: Filled, negatives: &[u16], count
 }
 
 // A negative matches the source of a row. Inlined: most groups have none.
-// As it is: the tables are fixed memory, lent as slices.
 #[inline(always)]
 pub(crate) fn removed(
     specs: &[u8],

@@ -32,7 +32,6 @@ fn numbers(i: usize, field: usize) -> Numbers
 }
 
 // How many bytes item j takes under spec i.
-// As it is: the tables are fixed memory, lent as slices.
 pub fn item_size<D: Direction>(
     specs: &[u8],
     m: Matcher,

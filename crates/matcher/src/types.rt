@@ -5,7 +5,7 @@ ghost use Rattle.matcher.specs.Matching.{lead_bytes, lowers};
 use parse::types::Side;
 
 // What a source looks for.
-// As it is: `Absent` is one of several cases; an Option around the others would add a layer to each match, as in `Some(Needle::Glob(star))`.
+// As it is: (d) `Absent` is one of several cases; an Option around the others would add a layer to each match, as in `Some(Needle::Glob(star))`.
 #[derive(Clone, Copy)]
 pub enum Needle {
     // Nothing: there is no source.
@@ -56,7 +56,7 @@ impl Lead {
 }
 
 // A destination.
-// As it is: `Absent` is one of several cases; an Option around the others would add a layer to each match, as in `Some(Target::Pattern(star))`.
+// As it is: (d) `Absent` is one of several cases; an Option around the others would add a layer to each match, as in `Some(Target::Pattern(star))`.
 #[derive(Clone, Copy)]
 pub enum Target {
     // There is none.
@@ -88,7 +88,7 @@ pub struct Filled {
 }
 
 // A text that a match makes.
-// As it is: `Absent` is one of several cases; an Option around the others would add a layer to each match, as in `Some(RowText::Led(lead, side))`.
+// As it is: (d) `Absent` is one of several cases; an Option around the others would add a layer to each match, as in `Some(RowText::Led(lead, side))`.
 #[derive(Clone, Copy)]
 pub enum RowText {
     // There is none.

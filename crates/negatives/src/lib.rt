@@ -18,7 +18,7 @@ use sides::wide;
 pub const NEGATIVE_NUMBERS: usize = 4;
 
 // What a negative spec looks for, as places in the spec list.
-// As it is: `Nothing` is one of several cases; an Option around the others would add a layer to each match, as in `Some(Negative::Head)`.
+// As it is: (d) `Nothing` is one of several cases; an Option around the others would add a layer to each match, as in `Some(Negative::Head)`.
 #[derive(Clone, Copy)]
 pub enum Negative {
     // Nothing: it has no source, or beside it a destination that is a pattern where it is none, or the other way.
@@ -87,7 +87,7 @@ fn negative_of(specs: &[u8], r: RefSpec) -> Negative
 }
 
 // Four numbers are put into a table as those of number k; the number after it.
-// As it is: a negative has 32 bytes, and its four numbers in a table have eight; so kinds are numbers there.
+// As it is: (a) a negative has 32 bytes, and its four numbers in a table have eight; so kinds are numbers there.
 fn put_numbers(out: &mut [u16], k: usize, kind: usize, at: usize, len: usize, star: usize) -> usize
     requires { (negative_numbers * k + negative_numbers ≤ length out.old) × (kind ≤ 3) × (at ≤ spec_list_bytes) × (len ≤ spec_list_bytes) × (star ≤ spec_list_bytes) }
     ensures { (result ≡ k + 1) × (out.new ≡ splice out.old (negative_numbers * k) (kind ∷ at ∷ len ∷ star ∷ [])) × PutNegative out.old k (negative_from kind at len star) out.new }
@@ -101,7 +101,6 @@ fn put_numbers(out: &mut [u16], k: usize, kind: usize, at: usize, len: usize, st
 }
 
 // A negative is put into a table as number k; the number after it.
-// As it is: the tables are fixed memory, lent as slices.
 fn put_negative(out: &mut [u16], k: usize, n: Negative) -> usize
     requires { (negative_numbers * k + negative_numbers ≤ length out.old) × NegativeWithin spec_list_bytes n }
     ensures { (result ≡ k + 1) × (out.new ≡ splice out.old (negative_numbers * k) (negative_four n)) × PutNegative out.old k n out.new }
@@ -115,7 +114,6 @@ fn put_negative(out: &mut [u16], k: usize, n: Negative) -> usize
 }
 
 // A spec is added to the first k negatives of a table, if it is one; how many they are then.
-// As it is: the tables are fixed memory, lent as slices.
 pub fn put_if_negative(specs: &[u8], r: RefSpec, k: usize, out: &mut [u16]) -> usize
     requires { SidesWithin (length specs.now) r × (length specs.now ≤ spec_list_bytes) × (negative_numbers * k + negative_numbers ≤ length out.old) }
     ensures { (result ≡ cond (is_negative (mode_meant r.mode)) (k + 1) k) × (out.new ≡ added_to specs.now r out.old k)
@@ -130,7 +128,7 @@ pub fn put_if_negative(specs: &[u8], r: RefSpec, k: usize, out: &mut [u16]) -> u
 }
 
 // The negative that four numbers tell.
-// As it is: a negative has 32 bytes, and its four numbers in a table have eight; so kinds are numbers there.
+// As it is: (a) a negative has 32 bytes, and its four numbers in a table have eight; so kinds are numbers there.
 fn negative_from(kind: usize, at: usize, len: usize, star: usize) -> Negative
     ensures { result ≡ negative_from kind at len star }
 {
@@ -143,7 +141,6 @@ fn negative_from(kind: usize, at: usize, len: usize, star: usize) -> Negative
 }
 
 // Negative number k of a table.
-// As it is: the tables are fixed memory, lent as slices.
 fn negative_at(table: &[u16], k: usize) -> Negative
     requires { negative_numbers * k + negative_numbers ≤ length table.now }
     ensures { result ≡ negative_at table.now k }
@@ -189,7 +186,6 @@ fn matches(specs: &[u8], n: Negative, name: &[u8]) -> bool
 }
 
 // One of the first `count` negatives of a table matches a name.
-// As it is: the tables are fixed memory, lent as slices.
 pub fn excluded(specs: &[u8], negatives: &[u16], count: usize, name: &[u8]) -> bool
     requires { (negative_numbers * count ≤ length negatives.now) × ((k : ℕ) → k < count → NegativeWithin (length specs.now) (negative_at negatives.now k)) }
     ensures { result ≡ excluded_by specs.now negatives.now count name.now }
@@ -242,7 +238,6 @@ fn matches_pieces(specs: &[u8], n: Negative, a: &[u8], b: &[u8], c: &[u8]) -> bo
 }
 
 // One of the first `count` negatives of a table matches it.
-// As it is: the tables are fixed memory, lent as slices.
 pub fn excluded_pieces(
     specs: &[u8],
     negatives: &[u16],

@@ -67,7 +67,7 @@ pub fn measure(t: &[u8]) -> Result<usize, Fault>
     }
     let mut n = 0;
     let mut i = 1;
-    // As it is: one byte or three show a byte, so each step says where the next one begins, and a `for` would count the bytes that show.
+    // As it is: (d) one byte or three show a byte, so each step says where the next one begins, and a `for` would count the bytes that show.
     while i < t.len() {
         let s = shown_at(t, i).ok_or(Fault { at: i })?;
         n += 1;
@@ -83,7 +83,7 @@ fn put_text(t: &[u8], out: &mut [u8])
 {
     let mut end = 0;
     let mut i = 1;
-    // As it is: as in `measure`.
+    // As it is: (d) as in `measure`.
     while i < t.len() {
         let Some(s) = shown_at(t, i) else { return };
         end = buffer::put_byte(out, end, s.byte);

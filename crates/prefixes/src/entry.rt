@@ -12,7 +12,7 @@ use list::stretch::Stretch;
 use parse::types::Side;
 
 // A text: a frame's number, and where the name in it stands. A number past the last frame's is `HEAD`.
-// As it is: an enum with a case for `HEAD` has a word more, so that the table of a group's texts takes a third more of the stack.
+// As it is: (a) an enum with a case for `HEAD` has a word more, so that the table of a group's texts takes a third more of the stack.
 #[derive(Clone, Copy)]
 pub(crate) struct Entry {
     pub frame: usize,

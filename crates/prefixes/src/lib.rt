@@ -125,7 +125,7 @@ fn list_table(specs: &[u8], table: &[Entry], out: &mut [u8]) -> Written
 
 // The prefix list of a group that yields at most N texts, none of which has more than M bytes. Not inlined, so that the table of each size
 // is in a frame of its own: in one frame, few specs would take the stack of many.
-// As it is: there is no heap, so the table and the text that is spelt stand in arrays.
+// As it is: (a) there is no heap, so the table and the text that is spelt stand in arrays.
 #[inline(never)]
 fn list_in_room<const N: usize, const M: usize>(
     op: u64,

@@ -20,7 +20,7 @@ const HEADER: &[u8] = b"item\tspec\tkind\tsource\tdestination\n";
 pub struct Row<'a> {
     pub item: usize,
     pub spec: usize,
-    // As it is: a row list may have any number here, and an enum would ask of callers that they know it.
+    // As it is: (a) a row list may have any number here, and an enum would ask of callers that they know it.
     pub kind: usize,
     pub source: &'a [u8],
     pub destination: Option<&'a [u8]>,
@@ -44,7 +44,7 @@ pub fn put_header(out: &mut [u8], at: usize) -> usize
 }
 
 // Writes a number and the byte that ends its field, and answers the place after them.
-// As it is: `put_kind` and `put_text` end a field too, but one function of all three takes a closure, whose contract is longer than they are.
+// As it is: (d) `put_kind` and `put_text` end a field too, but one function of all three takes a closure, whose contract is longer than they are.
 fn put_number(out: &mut [u8], at: usize, n: usize, end: u8) -> usize
     requires { RoomFor out.old at (ended end (decimal n)) }
     ensures { Puts out.old at (ended end (decimal n)) out.new result }
@@ -76,7 +76,7 @@ fn put_item(out: &mut [u8], at: usize, item: usize) -> usize
 }
 
 // The word for a kind.
-// As it is: a number, as in `Row`.
+// As it is: (d) a number, as in `Row`.
 fn kind_word(kind: usize) -> &'static [u8]
     ensures { (result.now ≡ shown_kind kind) × (length result.now ≤ 6) }
 {
@@ -87,7 +87,7 @@ fn kind_word(kind: usize) -> &'static [u8]
 }
 
 // Writes the word for a kind and a tab, and answers the place after them.
-// As it is: a number, as in `Row`.
+// As it is: (d) a number, as in `Row`.
 fn put_kind(out: &mut [u8], at: usize, kind: usize) -> usize
     requires { RoomFor out.old at (with_tab (shown_kind kind)) }
     ensures { Puts out.old at (with_tab (shown_kind kind)) out.new result }
@@ -97,7 +97,7 @@ fn put_kind(out: &mut [u8], at: usize, kind: usize) -> usize
 }
 
 // Writes item, spec and kind, and answers the place after them.
-// As it is: the kind is a number, as in `Row`.
+// As it is: (d) the kind is a number, as in `Row`.
 fn put_start(out: &mut [u8], at: usize, item: usize, spec: usize, kind: usize) -> usize
     requires { RoomFor out.old at (line_start item spec kind) }
     ensures { Puts out.old at (line_start item spec kind) out.new result }
@@ -167,6 +167,6 @@ pub fn put_refusal(out: &mut [u8], n: u64) -> usize
     ensures { (out.new ≡ splice out.old 0 (output (refused n none))) × (result ≡ length (output (refused n none))) }
 {
     let i = put(out, 0, b"refused ");
-    // As it is: a number of 64 bits has no From to `usize`, and `try_from` may fail.
+    // As it is: (d) a number of 64 bits has no From to `usize`, and `try_from` may fail.
     put_number(out, i, n as usize, b'\n')
 }

@@ -18,7 +18,7 @@ use refspec::spec::{instruction, prefix};
 use write::to_bstring;
 
 // The number of an instruction's kind.
-// As it is: no From, for neither `Instruction` nor `u8` is a type of this crate.
+// As it is: (d) no From, for neither `Instruction` nor `u8` is a type of this crate.
 fn kind(i: Instruction) -> u8
     ensures { (t : Text) → result ≡ kind_byte (instruction_meant t i) }
 {
@@ -34,7 +34,7 @@ fn kind(i: Instruction) -> u8
 }
 
 // An instruction is forced.
-// As it is: no method, for `Instruction` is of `refspec`, which does not ask it.
+// As it is: (d) no method, for `Instruction` is of `refspec`, which does not ask it.
 fn is_forced(i: Instruction) -> bool
     ensures { (t : Text) → flag_byte result ≡ force_byte (instruction_meant t i) }
 {
@@ -63,7 +63,7 @@ fn instruction_field(told: &[u8], at: usize, i: Instruction) -> Option<usize>
 }
 
 // The canonical text.
-// As it is: `prefixes_field` has this form, but one function of both takes the call and the field as closures, with contracts of their own.
+// As it is: (d) `prefixes_field` has this form, but one function of both takes the call and the field as closures, with contracts of their own.
 fn canonical_field(
     told: &[u8],
     at: usize,
@@ -78,7 +78,7 @@ fn canonical_field(
     if w.refusal != 0 {
         return None;
     }
-    // As it is: a number of 64 bits has no From to `usize`, and `try_from` may fail.
+    // As it is: (d) a number of 64 bits has no From to `usize`, and `try_from` may fail.
     let n = w.length as usize;
     text_field(told, at, &scratch[..n])
 }
@@ -124,7 +124,7 @@ fn prefixes_field(told: &[u8], at: usize, op: u64, spec: &[u8], scratch: &mut [u
     if w.refusal != 0 {
         return None;
     }
-    // As it is: as in `canonical_field`.
+    // As it is: (d) as in `canonical_field`.
     let n = w.length as usize;
     list_field(told, at, &scratch[..n])
 }

@@ -42,7 +42,7 @@ pub fn front_field(told: &[u8], at: usize, size: u64, out: &[u8]) -> Option<usiz
     requires { at ≤ length told.now }
     ensures { result ≡ front_at told.now at out.now size }
 {
-    // As it is: a number of 64 bits has no From to `usize`, and `try_from` may fail.
+    // As it is: (d) a number of 64 bits has no From to `usize`, and `try_from` may fail.
     let n = size as usize;
     if out.len() < n {
         return None;

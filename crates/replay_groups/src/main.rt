@@ -3,7 +3,7 @@
 
 use replaying::{Groups, replay};
 
-// As it is: each program has a main of its own.
+// As it is: (d) each program has a main of its own.
 fn main(rt: HostRuntime) {
     replay(&mut rt.stdin(), &mut rt.stdout(), &Groups);
 }

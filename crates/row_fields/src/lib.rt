@@ -12,7 +12,7 @@ use list::stretch::Stretch;
 use parse::types::Side;
 
 // A row: its numbers, its source as a place in the list, and its destination, which may be absent.
-// As it is: the kind is what the list says, which no question has passed yet; one that is neither 0 nor 1 is refused above this crate.
+// As it is: (d) the kind is what the list says, which no question has passed yet; one that is neither 0 nor 1 is refused above this crate.
 #[derive(Clone, Copy)]
 pub struct RowPlace {
     pub item: usize,

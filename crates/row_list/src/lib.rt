@@ -56,7 +56,7 @@ pub fn row_at(c: Cursor, list: &[u8], specs: usize) -> Option<Record<RowPlace>>
 }
 
 // The rows of a row list, one after the other.
-// As it is: a `for` needs an iterator of this crate's own, whose step and law are longer than the loops over `next_row` and `row_at`.
+// As it is: (d) a `for` needs an iterator of this crate's own, whose step and law are longer than the loops over `next_row` and `row_at`.
 fn each_row(list: &[u8], specs: usize) -> Result<usize, Refused>
     requires { length list.now ≤ row_list_bytes }
     ensures { numbers_of result ≡ checked (records (row_record specs) 0 list.now) }

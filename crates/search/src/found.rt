@@ -43,7 +43,7 @@ pub(crate) fn part<'a>(items: &'a [u8], at: usize, n: usize) -> &'a [u8]
 }
 
 // A hit as it is noted.
-// As it is: `u32::try_from(hit)` answers a result, of which no refusal can come here.
+// As it is: (d) `u32::try_from(hit)` answers a result, of which no refusal can come here.
 fn narrow(hit: usize) -> u32
     requires { hit ≤ hit_most }
     ensures { result ≡ hit }
@@ -52,7 +52,6 @@ fn narrow(hit: usize) -> u32
 }
 
 // Notes a hit that takes so many bytes, unless it takes none, and answers how many are noted.
-// As it is: the tables are fixed memory, lent as slices.
 fn note(hits: &mut [u32], count: usize, size: usize, hit: usize) -> usize
     requires { (length hits.old ≤ hit_room) × (hit ≤ hit_most) }
     ensures { Adds hits.old count (hit_if size hit) hits.new result }
@@ -68,7 +67,6 @@ fn note(hits: &mut [u32], count: usize, size: usize, hit: usize) -> usize
 }
 
 // Measures and notes what name j gives in the turn of a spec.
-// As it is: the tables are fixed memory, lent as slices.
 fn name_found<D: Direction>(
     turn: Turn,
     specs: &[u8],
@@ -90,7 +88,6 @@ fn name_found<D: Direction>(
 }
 
 // Measures and notes what the names that pass a filter give in the turn of a spec.
-// As it is: the tables are fixed memory, lent as slices.
 fn names_found<D: Direction>(
     turn: Turn,
     specs: &[u8],
@@ -111,7 +108,7 @@ fn names_found<D: Direction>(
     let mut size = 0;
     let mut known = turn.at;
     let mut j = next_passing(f, items, places, n, 0);
-    // As it is: the next name is the next that passes, which no range counts.
+    // As it is: (d) the next name is the next that passes, which no range counts.
     while j < n {
         let at = wide(places[2 * j]);
         let len = wide(places[2 * j + 1]);
@@ -129,7 +126,6 @@ fn names_found<D: Direction>(
 }
 
 // Measures and notes what one spec of a table gives in its turn.
-// As it is: the tables are fixed memory, lent as slices.
 pub fn spec_found<D: Listing>(
     turn: Turn,
     specs: &[u8],
@@ -157,7 +153,6 @@ pub fn spec_found<D: Listing>(
 }
 
 // Measures what all specs of a table give, and notes it after the first `noted` hits.
-// As it is: the tables are fixed memory, lent as slices.
 pub fn specs_found<D: Listing>(
     scope: Scope,
     specs: &[u8],
@@ -189,7 +184,6 @@ pub fn specs_found<D: Listing>(
 }
 
 // Measures and notes what all specs of a table give as object sources.
-// As it is: the tables are fixed memory, lent as slices.
 pub fn objects_found(specs: &[u8], table: &[u16], group: usize, hits: &mut [u32]) -> Found
     requires { TableReady specs.now table.now group × (length hits.old ≤ hit_room) }
     ensures { (result.size ≡ length (objects_give specs.now table.now group)) × (result.size ≤ objects_most)

@@ -28,7 +28,6 @@ impl Listing for Forward {
         forward_filter(specs, m)
     }
 
-    // As it is: the tables are fixed memory, lent as slices.
     fn first_found(specs: &[u8], table: &[u16], group: usize, hits: &mut [u32]) -> Found {
         objects_found(specs, table, group, hits)
     }
@@ -39,7 +38,6 @@ impl Listing for Reverse {
         reverse_filter(specs, m)
     }
 
-    // As it is: the tables are fixed memory, lent as slices.
     fn first_found(_specs: &[u8], _table: &[u16], _group: usize, _hits: &mut [u32]) -> Found {
         Found { size: 0, hits: 0 }
     }

@@ -17,7 +17,7 @@ use matcher_table::matcher_at;
 use sides::wide;
 
 // A hit that was noted.
-// As it is: a `usize` is made of a `u32` by no `From`.
+// As it is: (d) a `usize` is made of a `u32` by no `From`.
 fn wider(hit: u32) -> usize
     ensures { result ≡ hit }
 {
@@ -25,7 +25,6 @@ fn wider(hit: u32) -> usize
 }
 
 // Where the name of an item field begins.
-// As it is: the tables are fixed memory, lent as slices.
 fn start_of(places: &[u16], field: usize) -> usize
     requires { 2 * field ≤ length places.now }
     ensures { result ≡ field_start places.now field }
@@ -38,7 +37,6 @@ fn start_of(places: &[u16], field: usize) -> usize
 }
 
 // How many bytes the name of an item field has; no item has none.
-// As it is: the tables are fixed memory, lent as slices.
 fn size_of(places: &[u16], field: usize) -> usize
     requires { 2 * field ≤ length places.now }
     ensures { result ≡ field_size places.now field }
@@ -51,7 +49,6 @@ fn size_of(places: &[u16], field: usize) -> usize
 }
 
 // Writes what a hit gives under the spec of a matcher, and answers the place after it.
-// As it is: the tables are fixed memory, lent as slices.
 fn put_hit<D: Direction>(
     out: &mut [u8],
     at: usize,
@@ -81,7 +78,6 @@ fn put_hit<D: Direction>(
 }
 
 // Writes what some hits give, and answers the place after it.
-// As it is: the tables are fixed memory, lent as slices.
 pub fn put_hits<D: Direction>(
     out: &mut [u8],
     at: usize,

@@ -10,7 +10,7 @@ ghost use Rattle.sides.specs.Sides.{numbers_of, side_of};
 use parse::types::Side;
 
 // Which side it is, where it begins, and how many bytes it has.
-// As it is: the tables of specs are fixed memory on the stack: a side has 24 bytes, and its three numbers have six.
+// As it is: (a) the tables of specs are fixed memory on the stack: a side has 24 bytes, and its three numbers have six.
 #[derive(Clone, Copy, Debug, PartialEq, Eq)]
 pub struct SideNumbers {
     pub kind: u16,
@@ -56,7 +56,7 @@ impl SideNumbers {
 }
 
 // A place in a spec list as a number of a table.
-// As it is: `u16::try_from(n)` answers a result, of which no refusal can come here.
+// As it is: (d) `u16::try_from(n)` answers a result, of which no refusal can come here.
 pub fn narrow(n: usize) -> u16
     requires { n ≤ spec_list_bytes }
     ensures { result ≡ n }

@@ -101,7 +101,7 @@ fn show_instruction<W: Write>(to: &mut W, spec: &[u8], i: Instruction) -> io::Re
 fn show_text<W: Write>(to: &mut W, spec: Spec) -> io::Result<()> {
     let mut out = [0u8; PROGRAM_BYTES];
     let w = to_bstring(spec.op, spec.text, &mut out);
-    // As it is: a number of 64 bits has no From to `usize`, and `try_from` may fail.
+    // As it is: (d) a number of 64 bits has no From to `usize`, and `try_from` may fail.
     match out.get(..w.length as usize) {
         Some(t) => show_field(to, "text", t),
         None => Ok(()),
@@ -148,7 +148,7 @@ fn show_list<W: Write>(to: &mut W, list: &[u8]) -> io::Result<()> {
 fn show_prefixes<W: Write>(to: &mut W, spec: Spec) -> io::Result<()> {
     let mut out = [0u8; PROGRAM_BYTES];
     let w = expand_prefixes(spec.op, spec.text, &mut out);
-    // As it is: as in `show_text`.
+    // As it is: (d) as in `show_text`.
     match out.get(..w.length as usize) {
         Some(list) => show_list(to, list),
         None => Ok(()),

@@ -20,7 +20,7 @@ pub fn read_full<R: Read>(from: &mut R, buffer: &mut [u8]) -> (usize, io::Result
     ensures end { OnOk result.1 (result.0 < length buffer.new → IsAtEnd (R.remaining from.new)) }
 {
     let mut at = 0;
-    // As it is: a read says how many bytes it got, `read_exact` does not, and `read_to_end` needs a Vec.
+    // As it is: (d) a read says how many bytes it got, `read_exact` does not, and `read_to_end` needs a Vec.
     while at < buffer.len() {
         match from.read(&mut buffer[at..]) {
             Ok(0) => return (at, Ok(())),

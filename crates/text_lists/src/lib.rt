@@ -95,7 +95,7 @@ fn put_text(out: &mut [u8], at: usize, t: &[u8]) -> usize
 }
 
 // Adds a spec, unless it is refused.
-// As it is: `add_name` asks another question and lets another list grow; one function of both takes the question and two lists to tell apart.
+// As it is: (d) `add_name` asks another question and lets another list grow; one function of both takes the question and two lists to tell apart.
 fn add_spec(t: &[u8], specs: &mut [u8], so: Lists) -> Result<Lists, Reason>
     requires { (length t.now ≤ program_bytes) × Room spec_list_bytes so.specs_size specs.old }
     ensures { SpecAdds t.now so result specs.old specs.new }

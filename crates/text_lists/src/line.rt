@@ -6,7 +6,7 @@ ghost use Rattle.text_lists.specs.Line.{lines_of, lines_left, LineAt, blank_byte
 
 // What a line holds: a spec or a name, which is the rest of the line from a place on, or nothing; a byte order mark stands before anything
 // else.
-// As it is: `Nothing` is one of several cases; an Option around the others would add a layer to each match, as in `Some(Line::Fetch(start))`.
+// As it is: (d) `Nothing` is one of several cases; an Option around the others would add a layer to each match, as in `Some(Line::Fetch(start))`.
 #[derive(Clone, Copy)]
 pub enum Line {
     Nothing,

@@ -64,7 +64,7 @@ pub fn read_text<R: Read, E: Write>(
 }
 
 // Tells which line is refused, and why, and answers how many bytes are told.
-// As it is: the reason is any number, as `refusal_words` has words for any; a `Reason` would ask more of callers.
+// As it is: (a) the reason is any number, as `refusal_words` has words for any; a `Reason` would ask more of callers.
 pub fn tell_refused<E: Write>(errors: &mut E, number: usize, reason: u64, line: &[u8]) -> usize
     requires { length line.now ≤ program_bytes }
     ensures { result ≡ length (refused_line number reason line.now) }

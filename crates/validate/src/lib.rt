@@ -21,7 +21,7 @@ use spec_list::check_specs;
 // What a call tells beside its buffers: a refusal's number or 0; the record that it carries; 1 where the first buffer holds conflicts; how
 // many bytes it holds, or beside 17 the length for the short buffer; how many the fix buffer holds; and beside 17 the short buffer, 1 the
 // first or 2 that for fixes. A field without a meaning is 0.
-// As it is: C reads this record, whose fields are numbers of 64 bits.
+// As it is: (a) C reads this record, whose fields are numbers of 64 bits.
 #[repr(C)]
 #[derive(Clone, Copy)]
 pub struct Validation {
@@ -59,7 +59,7 @@ fn refused(e: Refused) -> Validation
 }
 
 // A call whose buffer, 1 the first or 2 that for fixes, is too short for so many bytes.
-// As it is: C reads which of them it is as a number.
+// As it is: (a) C reads which of them it is as a number.
 fn short(buffer: u64, needed: usize) -> Validation
     ensures { result ≡ short_of buffer needed }
 {

@@ -15,7 +15,7 @@ use refusal::Refusal;
 
 // A part of a lent list in numbers: a refusal's or 0, the record that it carries, the list (0 the items, 1 the specs), where the part
 // begins in it and how many bytes it has. A field without a meaning is 0.
-// As it is: C reads this record, whose fields are numbers of 64 bits.
+// As it is: (a) C reads this record, whose fields are numbers of 64 bits.
 #[repr(C)]
 #[derive(Clone, Copy)]
 pub struct Part {
@@ -173,7 +173,7 @@ pub fn source(op: u64, specs: &[u8], items: &[u8], item_field: u64, spec: u64) -
 }
 
 // The bytes of a part of a list.
-// As it is: the numbers of a part are those of the C interface.
+// As it is: (a) the numbers of a part are those of the C interface.
 fn bytes(list: &[u8], start: u64, len: u64) -> &[u8]
     requires { start + len ≤ length list.now }
     ensures { result.now ≡ take len (drop start list.now) }
