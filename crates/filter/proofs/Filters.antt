@@ -9,7 +9,7 @@ use borrow.Author.Tests.{eq-eqb, le-leb, ltb-false, lt-ltb, le-ltb}
 use lib.Dec.{ltb}
 use lib.ListN.{length, take, drop, length-append, length-drop}
 use lib.Seq.{take-take}
-use Rattle.meaning.specs.Bytes.{Text, bytes, ◌and◌, any, same, begins, ends}
+use Rattle.meaning.specs.Bytes.{Text, bytes, any, same, begins}
 use Rattle.meaning.specs.Limits.{name_bytes, spec_list_bytes}
 use Rattle.meaning.specs.Prefix.{candidates}
 use Rattle.meaning.specs.Match.{miss, capture, pattern, Form}

@@ -19,7 +19,6 @@ use Rattle.refspec.specs.Instructions.{side_text}
 use Rattle.matcher.specs.declared.types.Needle.{Needle}
 use Rattle.matcher.specs.declared.types.Needle.TheVariants as needle
 use Rattle.matcher.specs.declared.types.Lead.{Lead}
-use Rattle.matcher.specs.declared.types.Lead.TheVariants as lead
 use Rattle.matcher.specs.declared.types.Target.{Target}
 use Rattle.matcher.specs.declared.types.Target.TheVariants as target
 use Rattle.matcher.specs.declared.types.Matcher.{Matcher}

@@ -1,5 +1,5 @@
 -- The row of a name under a spec stands, or is gone. Assumes nothing.
-use mathlib.Core.Path.{◌≡◌, refl, sym, ap, ◌∙◌, subst}
+use mathlib.Core.Path.{◌≡◌, refl, sym, ap, ◌∙◌}
 use mathlib.Core.Bool.{Bool, true, false}
 use mathlib.Core.List.{append-nil}
 use Rattle.std.specs.Prelude as prelude

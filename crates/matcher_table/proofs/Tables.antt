@@ -17,7 +17,7 @@ use Rattle.matcher.specs.declared.types.Target.{Target}
 use Rattle.matcher.specs.declared.types.Matcher.{Matcher}
 use Rattle.sides.specs.declared.SideNumbers.{SideNumbers}
 use Rattle.sides.specs.Sides.{side_of}
-use Rattle.sides.specs.Numbers.{side_from, side_kind, side_at, side_len}
+use Rattle.sides.specs.Numbers.{side_from, side_kind}
 use Rattle.sides.proofs.Told.{side-told}
 use Rattle.matcher_table.specs.Numbers.{matcher_numbers, needle_from, target_from, matcher_at, PutMatcher, needle_kind, needle_star, target_kind, target_number, half_numbers, source_numbers, destination_numbers}
 use Rattle.matcher_table.proofs.Told.{needle-told, target_told}

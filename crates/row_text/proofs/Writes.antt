@@ -4,7 +4,7 @@ use native.Mathlib.Omega.{arith}
 use native.Mathlib.Nat.{add-zero}
 use mathlib.Core.Path.{◌≡◌, refl, sym, ap, ◌∙◌}
 use mathlib.Core.Bool.{Bool, true, false, false≢true}
-use mathlib.Core.List.{[], ◌++◌, append-nil}
+use mathlib.Core.List.{[], ◌++◌}
 use mir.Val.{Fits}
 use mir.Syntax.{w64}
 use lib.ListN.{length, length-append}

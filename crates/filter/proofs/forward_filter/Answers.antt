@@ -1,7 +1,5 @@
 -- `filter::forward_filter` meets its contract: each needle has its filter.
-use Rattle.match_one.proofs.Onward.{needle-star-in}
 use Rattle.filter.proofs.Filters.{forward-absent, forward-glob, forward-full, forward-object, forward-part}
-use borrow.Author.Rules.{rules}
 use Rattle.filter.proofs.forward_filter.Goals as goal
 
 pub returns-in-Absent : goal.returns-in-Absent

@@ -1,7 +1,5 @@
 use native.Mathlib.Omega.{arith}
-use mathlib.Core.Path.{refl}
-use Rattle.filter.proofs.Looks.{passing-here, passing-more, passing-none, place-within}
-use borrow.Author.Rules.{rules}
+use Rattle.filter.proofs.Looks.{passing-here, passing-more, passing-none}
 use Rattle.filter.proofs.next_passing.Goals as goal
 
 pub returns-then-passes : goal.returns-then-passes

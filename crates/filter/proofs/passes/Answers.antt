@@ -1,6 +1,5 @@
 -- `filter::passes` meets its contract: the questions are asked one after the other.
-use Rattle.filter.proofs.Looks.{too_short, too_long, word_room, word-decides, frame-decides, size-decides}
-use native.Mathlib.Omega.{arith}
+use Rattle.filter.proofs.Looks.{too_short, too_long, word-decides, frame-decides, size-decides}
 use Rattle.filter.proofs.passes.Goals as goal
 
 pub returns-then-n-f : goal.returns-then-n-f

@@ -1,7 +1,5 @@
 -- `filter::reverse_filter` meets its contract: each destination has its filter.
-use Rattle.match_one.proofs.Onward.{target-star-in}
 use Rattle.filter.proofs.Filters.{reverse-absent, reverse-pattern, reverse-literal}
-use borrow.Author.Rules.{rules}
 use Rattle.filter.proofs.reverse_filter.Goals as goal
 
 pub returns-in-Absent : goal.returns-in-Absent

@@ -1,6 +1,5 @@
 -- `filter::whole_filter` meets its contract: what is a text has its bytes, and as many.
-use Rattle.parse.proofs.Parts.{part-within}
-use Rattle.filter.proofs.Filters.{whole-absent, whole_part, whole-head}
+use Rattle.filter.proofs.Filters.{whole-absent}
 use Rattle.filter.proofs.whole_filter.Goals as goal
 
 pub returns-in-Absent : goal.returns-in-Absent

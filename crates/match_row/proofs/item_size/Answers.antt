@@ -1,5 +1,5 @@
 -- A name that is not matched has no row; the row of one that is is gone, or the one that the ends make.
-use Rattle.match_row.proofs.Kept.{hit-none, hit-some, none-measured, gone-measured, kept-measured, source-short, ends-within, source-within, item-small, lent_is}
+use Rattle.match_row.proofs.Kept.{hit-none, hit-some, none-measured, gone-measured, kept-measured, source-short, source-within, lent_is}
 use borrow.Author.Rules.{rules}
 use Rattle.match_row.proofs.item_size.Goals as goal
 

@@ -1,6 +1,5 @@
 -- No row, or the one that the ends make.
-use Rattle.match_row.proofs.Objects.{object-none, object-size, object-ends-within, nothing_lent}
-use Rattle.match_row.proofs.Kept.{object-small}
+use Rattle.match_row.proofs.Objects.{object-none, object-size}
 use borrow.Author.Rules.{rules}
 use Rattle.match_row.proofs.object_size.Goals as goal
 

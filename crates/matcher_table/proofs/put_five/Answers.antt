@@ -1,5 +1,5 @@
 -- `matcher_table::put_five` meets its contract: the five numbers stand one after the other.
-use Rattle.matcher_table.proofs.Tables.{second-room, third-room, fourth-room, fifth-room, five-stored}
+use Rattle.matcher_table.proofs.Tables.{five-stored}
 use Rattle.matcher_table.proofs.put_five.Goals as goal
 
 pub returns : goal.returns

@@ -1,5 +1,4 @@
 -- `matcher_table::put_matcher` meets its contract: both fives tell the matcher, and the others stay.
-use Rattle.matcher_table.proofs.Told.{needle-small, target_small}
 use Rattle.matcher_table.proofs.Tables.{stored}
 use Rattle.matcher_table.proofs.put_matcher.Goals as goal
 

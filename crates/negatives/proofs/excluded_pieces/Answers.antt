@@ -1,6 +1,4 @@
-use mathlib.Core.Path.{refl}
-use native.Mathlib.Omega.{arith}
-use Rattle.negatives.proofs.Asking.{asking-room, asking-within, asking-found, asking-more, asking-done}
+use Rattle.negatives.proofs.Asking.{asking-found, asking-done}
 use Rattle.negatives.proofs.excluded_pieces.Goals as goal
 
 pub returns-then-matches_pieces : goal.returns-then-matches_pieces

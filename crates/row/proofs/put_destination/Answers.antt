@@ -1,5 +1,5 @@
 -- Absent, a destination is one byte; else its bytes are written right after their length plus 1. Assumes nothing.
-use Rattle.row.proofs.Rows.{none-room, none-put, none_end, some-first, some-second, some-put, some_end}
+use Rattle.row.proofs.Rows.{none-put, none_end, some-first, some-second, some-put, some_end}
 use borrow.Author.Rules.{rules}
 use Rattle.row.proofs.put_destination.Goals as goal
 

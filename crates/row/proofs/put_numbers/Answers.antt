@@ -1,6 +1,6 @@
 -- Each number is written right after the one before it. Assumes nothing.
-use Rattle.buffer.proofs.Threes.{three-first, three-second}
-use Rattle.row.proofs.Rows.{kind-room, kind-put, kind-end}
+use Rattle.buffer.proofs.Threes.{three-first}
+use Rattle.row.proofs.Rows.{kind-put, kind-end}
 use borrow.Author.Rules.{rules}
 use Rattle.row.proofs.put_numbers.Goals as goal
 

@@ -1,6 +1,5 @@
 -- Each part stands right after the one before it. Assumes nothing.
-use Rattle.buffer.proofs.Threes.{three-first, three-second, three_third, three-put, three-end}
-use borrow.Author.Rules.{rules}
+use Rattle.buffer.proofs.Threes.{three-put, three-end}
 use Rattle.row_text.proofs.put_filled.Goals as goal
 
 pub returns : goal.returns

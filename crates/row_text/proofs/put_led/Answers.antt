@@ -1,5 +1,5 @@
 -- The side, which is lent, stands right after what leads it. Assumes nothing.
-use Rattle.row_text.proofs.Writes.{body-lower, body-plain, led-first, led-second, led-put, led-end}
+use Rattle.row_text.proofs.Writes.{body-lower, body-plain, led-put, led-end}
 use Rattle.row_text.proofs.put_led.Goals as goal
 
 pub returns-then-lowers : goal.returns-then-lowers

@@ -1,5 +1,4 @@
 -- `glob::pieces::pieces_glob` meets its contract: the length, the start and the end decide.
-use Rattle.glob.proofs.Ends.{star-taken}
 use Rattle.glob.proofs.Joined.{star-short, star-start, star-end}
 use Rattle.glob.proofs.pieces.pieces_glob.Goals as goal
 

@@ -1,5 +1,5 @@
 -- `glob::pieces::pieces_same` meets its contract: a text of their length is the three pieces where each stands in it.
-use Rattle.glob.proofs.Joined.{same_not, second-start, third-start, same_second, same_first, same-third}
+use Rattle.glob.proofs.Joined.{same_not, same_second, same_first, same-third}
 use Rattle.glob.proofs.pieces.pieces_same.Goals as goal
 
 pub returns-then-not-is_sum : goal.returns-then-not-is_sum

@@ -1,5 +1,5 @@
 -- `match_one::rows::source_hit` meets its contract: each arm is one kind of source.
-use Rattle.match_one.proofs.Onward.{nothing-hit, glob-hit, full-hit, partial-hit, whole-within}
+use Rattle.match_one.proofs.Onward.{nothing-hit, full-hit, partial-hit, whole-within}
 use borrow.Author.Rules.{rules}
 use Rattle.match_one.proofs.rows.source_hit.Goals as goal
 

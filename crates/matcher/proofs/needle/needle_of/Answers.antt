@@ -1,6 +1,5 @@
 -- Each arm is one kind of side; only a negative takes `HEAD` as a full name. Assumes nothing.
-use Rattle.parse.proofs.Parts.{part-within}
-use Rattle.matcher.proofs.Needles.{needle-side, head-negative, head-partial}
+use Rattle.matcher.proofs.Needles.{head-negative, head-partial}
 use Rattle.matcher.proofs.needle.needle_of.Goals as goal
 
 pub returns-in-Head : goal.returns-in-Head
