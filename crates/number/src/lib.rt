@@ -16,7 +16,8 @@ pub struct Number {
     pub next: usize,
 }
 
-// The number that starts at `at`, if one is well formed there.
+// The number that starts at `at`, if one is well formed there. Inlined, since LLVM takes a call after several `?` for a rare one.
+#[inline(always)]
 pub fn read(s: &[u8], at: usize) -> Option<Number>
     ensures { result ≡ number_at s.now at }
 {
