@@ -72,10 +72,9 @@ fn pair_size(rows: &[u8], run: &[u32]) -> usize
 {
     let count = pair_firsts::<Source>(rows, run);
     if count < 2 {
-        0
-    } else {
-        listed_size(rows, &run[..count])
+        return 0;
     }
+    listed_size(rows, &run[..count])
 }
 
 // How many bytes the conflict of a run takes that has so many sources, which take so many bytes.

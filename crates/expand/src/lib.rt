@@ -115,6 +115,7 @@ fn expand(op: u64, spec: &[u8], r: RefSpec, out: &mut [u8]) -> Written
 }
 
 // The prefixes that a spec yields, as a prefix list, for an operation, 0 fetch or 1 push.
+// As it is: (d) `write::to_bstring` has this form, a match of two arms; one function of both would be handed what the first arm does.
 pub fn expand_prefixes(op: u64, spec: &[u8], out: &mut [u8]) -> Written
     ensures { MeetsOne (expanded op spec.now) out.old out.new result.refusal result.record result.length }
 {

@@ -179,7 +179,7 @@ fn passes(f: Filter, items: &[u8], start: usize, n: usize) -> bool
 }
 
 // The number, `from` or after it, of the first of n names that passes a filter; n where none does.
-// As it is: (b) by `for j in from..n` a forward listing of 256 specs and 1,024 names takes 3,308,081 instructions, and so 3,246,967.
+// As it is: (b) by `for j in from..n` a forward listing of 256 specs and 1,024 names takes 3,308,081 instructions, and so 3,272,920.
 pub fn next_passing(f: Filter, items: &[u8], places: &[u16], n: usize, from: usize) -> usize
     requires { FilterWithin f × (from ≤ n) × (2 * n ≤ length places.now) × ((k : ℕ) → k < n → get_or places.now (2 * k) 0 + get_or places.now (2 * k + 1) 0 ≤ length items.now) }
     ensures { result ≡ next_passing f items.now places.now n from }

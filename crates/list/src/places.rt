@@ -41,6 +41,7 @@ fn each_place(list: &[u8], places: &mut [u16]) -> Result<usize, Refused>
 
 // Reads an item list, and notes where each name begins and how many bytes it has, two numbers for each. Where a record is refused, the names
 // before it are noted.
+// As it is: (d) `row_list::read_rows` has this form, with a limit and a walk of its own.
 pub fn read_places(list: &[u8], places: &mut [u16]) -> Result<usize, Refused>
     requires { places_room ≤ length places.old }
     ensures { PlacesRead list.now places.old places.new (numbers_of result) }

@@ -1,4 +1,5 @@
 // The forward and the reverse listing of items under specs, as row lists. Port of the crate's match_group/mod.rs.
+// As it is: (a) an operation is the C interface's number here; it is handed on as it stands to `parse`, which asks question 18 of it.
 #![tactic(auto)]
 
 ghost use Rattle.std.specs.Prelude.{◌≡◌, ◌*◌, ◌≤◌, length, take};

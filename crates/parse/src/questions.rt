@@ -32,6 +32,7 @@ impl Asked {
     }
 
     // Question 6 or 8.
+    // As it is: (d) two numbers for each of two sides; in one function each caller would take its half of a pair.
     fn name(self) -> Refusal
         ensures { number_of result ≡ first_asked self + 1 }
     {

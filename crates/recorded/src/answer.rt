@@ -1,4 +1,5 @@
 // The answer of a record, after its spec.
+// As it is: (a) an operation is the C interface's number here; it is handed on as it stands to `parse`, which asks question 18 of it.
 ghost use Rattle.std.specs.Prelude.{◌≡◌, ◌∷◌, ◌≤◌, length, drop};
 ghost use Rattle.meaning.specs.Bytes.{Text, same};
 ghost use Rattle.meaning.specs.Spec.{Spec, read_spec, accepted};

@@ -1,4 +1,5 @@
 // A recorded answer to a group, held to ours, field by field. specs/GroupRecord.antt has the record's form.
+// As it is: (a) an operation is the C interface's number here; it is handed on as it stands to `parse`, which asks question 18 of it.
 #![tactic(auto)]
 
 ghost use Rattle.std.specs.Prelude.{◌≡◌, true, ◌↔◌, ◌≤◌, length, drop};

@@ -27,6 +27,7 @@ pub fn past_last(b: u8, s: &[u8]) -> Option<usize>
     ensures { MatchOption result (past_last b s.now ≡ 0) (λ n. (n ≡ past_last b s.now) × (0 < n) × (n ≤ length s.now)) }
 {
     let mut rest = s;
+    // As it is: (d) the front that is left where a block has b is wanted after the loop.
     while let Some((front, block)) = rest.split_last_chunk::<16>() {
         if is_among(b, block) {
             break;

@@ -127,6 +127,7 @@ fn write_to(op: u64, spec: &[u8], r: RefSpec, out: &mut [u8]) -> Written
 }
 
 // The canonical text of a spec, for an operation, 0 fetch or 1 push.
+// As it is: (d) as `expand::expand_prefixes`.
 pub fn to_bstring(op: u64, spec: &[u8], out: &mut [u8]) -> Written
     ensures { MeetsOne (to_bstring op spec.now) out.old out.new result.refusal result.record result.length }
 {

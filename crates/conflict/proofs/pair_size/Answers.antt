@@ -6,5 +6,5 @@ use Rattle.conflict.proofs.pair_size.Goals as goal
 pub returns-then-count-lt2 : goal.returns-then-count-lt2
 returns-then-count-lt2 c = (search one_size, search rules)
 
-pub returns-else-count-lt2 : goal.returns-else-count-lt2
-returns-else-count-lt2 c = (search two_size, search two-small)
+pub returns : goal.returns
+returns c = (search two_size, search two-small)
