@@ -10,8 +10,6 @@ ghost use Rattle.meaning.specs.Buffers.{MeetsMaybe};
 ghost use Rattle.meaning.specs.Collide.{shared_by, collision, collide_bytes};
 ghost use Rattle.parse.specs.Places.{SidesWithin, spec_meant};
 ghost use Rattle.refspec.specs.Instructions.{side_text};
-ghost use Rattle.matcher.specs.Matching.{led_text};
-ghost use Rattle.matcher.specs.Sides.{DigitsOf};
 ghost use Rattle.collide.specs.Targets.{form_written, TargetIn, Writes, report_after};
 
 pub mod answer;

@@ -1,6 +1,6 @@
 //! The conflict of a run, the rows of one destination, if two of them have different sources: measured and written. Port of
 //! `Issue::Conflict` and of how it is found in the crate's match_group/validate.rs.
-// As it is: (d) as for `order::sort`, the places and the scratch are lent.
+// As it is: (a) as for `order::sort`, the places and the scratch are lent.
 #![tactic(auto)]
 
 ghost use Rattle.std.specs.Prelude.{◌≡◌, ◌+◌, ◌*◌, ◌≤◌, ◌<◌, length};

@@ -1,7 +1,7 @@
 // The index of a row list: the places of its rows that have a destination, sorted by it, so that rows of one destination are a run.
 // As it is: (a) there is no heap, so an index and the scratch of its sort are lent; the index is cut and the scratch lent whole, so that a
 // struct of both would be taken apart at each call.
-ghost use Rattle.std.specs.Prelude.{◌≡◌, ◌+◌, ◌*◌, ◌≤◌, ◌<◌, length, take};
+ghost use Rattle.std.specs.Prelude.{◌≡◌, ◌+◌, ◌≤◌, ◌<◌, length, take};
 ghost use Rattle.meaning.specs.Limits.{row_list_bytes};
 ghost use Rattle.buffer.specs.Splice.{splice};
 ghost use Rattle.order.specs.Rooms.{HalfRoom};
@@ -32,7 +32,7 @@ fn store(index: &mut [u32], n: usize, at: usize, dst: Side) -> usize
 }
 
 // Stores the places of all rows that have a destination, and answers how many there are.
-// As it is: (d) the loop is one of `row_list::each_row`.
+// As it is: (d) a walk by the cursor, for the reason given at `row_list::each_row`.
 fn fill(rows: &[u8], specs: usize, index: &mut [u32]) -> usize
     requires { RowsRead specs rows.now × (length (rows_in specs rows.now) ≤ length index.old) }
     ensures { Indexed specs rows.now (take result index.new) × (result ≤ length index.old) }

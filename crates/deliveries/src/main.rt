@@ -2,7 +2,7 @@
 // written is told on standard error.
 #![tactic(auto)]
 
-ghost use Rattle.std.specs.Prelude.{◌≡◌, ◌≤◌, IfSome, OnOk, length, take};
+ghost use Rattle.std.specs.Prelude.{◌≤◌, IfSome, OnOk, length, take};
 ghost use Rattle.std.specs.Io.KnownBytes.{Appends};
 ghost use Rattle.meaning.specs.Deliveries.{deliveries};
 ghost use Rattle.stdio.specs.Streams.{Says};

@@ -143,7 +143,7 @@ pub fn reverse_filter(specs: &[u8], m: Matcher) -> Filter
 
 // One of the six frames of a partial name adds so many bytes.
 // As it is: (b) by `matches!` the loop over names is no more inlined; a reverse listing of 256 specs and 1,024 names takes 2,875,733
-// instructions then, and so 2,035,748.
+// instructions then, and 2,035,748 as it is.
 fn frame_adds(d: usize) -> bool
     ensures { result ≡ frame_adds d }
 {
@@ -179,7 +179,6 @@ fn passes(f: Filter, items: &[u8], start: usize, n: usize) -> bool
 }
 
 // The number, `from` or after it, of the first of n names that passes a filter; n where none does.
-// As it is: (b) by `for j in from..n` a forward listing of 256 specs and 1,024 names takes 3,308,081 instructions, and so 3,272,920.
 pub fn next_passing(f: Filter, items: &[u8], places: &[u16], n: usize, from: usize) -> usize
     requires { FilterWithin f × (from ≤ n) × (2 * n ≤ length places.now) × ((k : ℕ) → k < n → get_or places.now (2 * k) 0 + get_or places.now (2 * k + 1) 0 ≤ length items.now) }
     ensures { result ≡ next_passing f items.now places.now n from }

@@ -19,17 +19,10 @@ fn is_sum(n: usize, a: usize, b: usize, c: usize) -> bool
 }
 
 // n is at most the sum of three numbers.
-// As it is: (d) as for `is_sum`.
 fn at_most_sum(n: usize, a: usize, b: usize, c: usize) -> bool
     ensures { result ≡ leb n (a + (b + c)) }
 {
-    if n <= a {
-        return true;
-    }
-    if n - a <= b {
-        return true;
-    }
-    n - a - b <= c
+    n <= a.saturating_add(b).saturating_add(c)
 }
 
 // Two pieces begin with p. What is past the first is asked first: texts that begin alike differ there.

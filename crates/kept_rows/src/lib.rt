@@ -77,7 +77,7 @@ fn fix_size(rows: &[u8], spec: usize, dst: Side) -> usize
 }
 
 // How many bytes the kept rows and the fixes of a row list take.
-// As it is: (d) the loop is one of `row_list::each_row`.
+// As it is: (d) a walk by the cursor, for the reason given at `row_list::each_row`.
 pub fn measure(rows: &[u8], specs: usize) -> Lengths
     requires { RowsRead specs rows.now }
     ensures { (result.kept ≡ length (row_list_of (keep is_kept (rows_in specs rows.now)))) × (result.fixed ≡ length (each (each (rows_in specs rows.now) fix_of) fix_bytes)) }
@@ -145,7 +145,7 @@ fn put_either(
 }
 
 // Writes the kept rows of a row list at the start of one buffer and the fixes at the start of the other, and answers their lengths.
-// As it is: (d) the loop is one of `row_list::each_row`.
+// As it is: (d) a walk by the cursor, for the reason given at `row_list::each_row`.
 pub fn put_rows(out: &mut [u8], fixes: &mut [u8], rows: &[u8], specs: usize) -> Lengths
     requires { RowsRead specs rows.now × (length (row_list_of (keep is_kept (rows_in specs rows.now))) ≤ length out.old) × (length (each (each (rows_in specs rows.now) fix_of) fix_bytes) ≤ length fixes.old) }
     ensures { (out.new ≡ splice out.old 0 (row_list_of (keep is_kept (rows_in specs rows.now)))) × (fixes.new ≡ splice fixes.old 0 (each (each (rows_in specs rows.now) fix_of) fix_bytes)) × (result.kept ≡ length (row_list_of (keep is_kept (rows_in specs rows.now)))) × (result.fixed ≡ length (each (each (rows_in specs rows.now) fix_of) fix_bytes)) }

@@ -167,7 +167,7 @@ pub(crate) fn list_group<D: Listing>(
     requires { TableReady specs.now table.now scope.specs × PlacesIn items.now places.now scope.names × Askable specs.now negatives.now scope.negatives }
     ensures { MeetsOne (accepted (some (table_bytes D.back (excluded_by specs.now negatives.now scope.negatives) specs.now table.now scope.specs items.now places.now scope.names) ∷ [])) out.old out.new result.refusal result.record result.length }
 {
-    // As it is: (a) no heap, so a table has the room of its limit.
+    // As it is: (a) no heap, so a table is an array of fixed size.
     let mut hits = [0u32; HIT_ROOM];
     list_rows::<D>(
         scope, specs, table, items, places, negatives, &mut hits, out,

@@ -1,8 +1,8 @@
 // The forward and the reverse listing of items under specs, as row lists. Port of the crate's match_group/mod.rs.
-// As it is: (a) an operation is the C interface's number here; it is handed on as it stands to `parse`, which asks question 18 of it.
+// As it is: (a) an operation is the C interface's number here; `spec_list` asks question 18 of it, and here it is handed on.
 #![tactic(auto)]
 
-ghost use Rattle.std.specs.Prelude.{◌≡◌, ◌*◌, ◌≤◌, length, take};
+ghost use Rattle.std.specs.Prelude.{◌*◌, ◌≤◌, length, take};
 ghost use Rattle.meaning.specs.Buffers.{MeetsOne};
 ghost use Rattle.meaning.specs.Entries.{match_lhs, match_rhs};
 ghost use Rattle.spec_list.specs.Group.{group_meant};
@@ -52,7 +52,7 @@ fn list_in<D: Listing>(
     ensures { MeetsOne (listing D.back (group_meant specs.now (take n records)) items.now) out.old out.new result.refusal result.record result.length }
 {
     let count = note_group(specs, records, n, table, negatives);
-    // As it is: (a) no heap, so a table has the room of its limit.
+    // As it is: (a) no heap, so a table is an array of fixed size.
     let mut places = [0u16; PLACES_ROOM];
     let names = match read_places(items, &mut places) {
         Ok(names) => names,
@@ -77,9 +77,9 @@ fn list_few<D: Listing>(
     requires { Grouped specs.now records n × (n ≤ few_specs) }
     ensures { MeetsOne (listing D.back (group_meant specs.now (take n records)) items.now) out.old out.new result.refusal result.record result.length }
 {
-    // As it is: (a) no heap, so a table has the room of its limit.
+    // As it is: (a) no heap, so a table is an array of fixed size.
     let mut table = [0u16; FEW_TABLE];
-    // As it is: (a) no heap, so a table has the room of its limit.
+    // As it is: (a) no heap, so a table is an array of fixed size.
     let mut negatives = [0u16; FEW_NEGATIVES];
     list_in::<D>(specs, records, n, items, &mut table, &mut negatives, out)
 }
@@ -95,9 +95,9 @@ fn list_many<D: Listing>(
     requires { Grouped specs.now records n }
     ensures { MeetsOne (listing D.back (group_meant specs.now (take n records)) items.now) out.old out.new result.refusal result.record result.length }
 {
-    // As it is: (a) no heap, so a table has the room of its limit.
+    // As it is: (a) no heap, so a table is an array of fixed size.
     let mut table = [0u16; TABLE];
-    // As it is: (a) no heap, so a table has the room of its limit.
+    // As it is: (a) no heap, so a table is an array of fixed size.
     let mut negatives = [0u16; NEGATIVES];
     list_in::<D>(specs, records, n, items, &mut table, &mut negatives, out)
 }

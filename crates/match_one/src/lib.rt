@@ -1,5 +1,6 @@
 // What one spec makes of one name: what it catches of the name, and the ends of the row that come of that, forward, in reverse and of an
-// object id. The ends of a name that is known to be matched come of how many bytes it has: nothing is compared again. Port of the crate's match_group/util.rs.
+// object id. The ends of a name that is known to be matched come of how many bytes it has: nothing is compared again. Port of the crate's
+// match_group/util.rs.
 #![tactic(auto)]
 
 ghost use Rattle.std.specs.Prelude.{◌≡◌, [], ◌≤◌, length};

@@ -1,7 +1,7 @@
 // What the sides of a spec are: what a source looks for, and how a destination is completed.
-ghost use Rattle.std.specs.Prelude.{◌≡◌, ◌+◌, ◌≤◌, length};
+ghost use Rattle.std.specs.Prelude.{◌+◌, length};
 ghost use Rattle.parse.specs.declared.types.Side.TheVariants.{Head};
-ghost use Rattle.parse.specs.Places.{part_at, Within};
+ghost use Rattle.parse.specs.Places.{Within};
 ghost use Rattle.matcher.specs.Sides.{NeedleOf, NeedleFor, LeadOf, TargetOf, TargetFor};
 
 use super::types::{Lead, Needle, Target};

@@ -249,8 +249,8 @@ pub fn excluded_pieces(
     requires { (negative_numbers * count ≤ length negatives.now) × ((k : ℕ) → k < count → NegativeWithin (length specs.now) (negative_at negatives.now k)) }
     ensures { result ≡ excluded_by specs.now negatives.now count (a.now ++ (b.now ++ c.now)) }
 {
-    for k in 0..count {
-        if matches_pieces(specs, negative_at(negatives, k), a, b, c) {
+    for i in 0..count {
+        if matches_pieces(specs, negative_at(negatives, i), a, b, c) {
             return true;
         }
     }

@@ -1,6 +1,5 @@
 // The lines: the header, a row, and a refusal.
 ghost use Rattle.std.specs.Prelude.{◌≡◌, ◌+◌, ◌≤◌, length, Option};
-ghost use Rattle.std.specs.Borrow.{Bor};
 ghost use Rattle.std.proofs.Math.Option.{none};
 ghost use Rattle.meaning.specs.Limits.{program_bytes, decimal_digits};
 ghost use Rattle.meaning.specs.Spec.{refused};
@@ -76,7 +75,7 @@ fn put_item(out: &mut [u8], at: usize, item: usize) -> usize
 }
 
 // The word for a kind.
-// As it is: (d) a number, as in `Row`.
+// As it is: (a) a number, as in `Row`.
 fn kind_word(kind: usize) -> &'static [u8]
     ensures { (result.now ≡ shown_kind kind) × (length result.now ≤ 6) }
 {
@@ -87,7 +86,7 @@ fn kind_word(kind: usize) -> &'static [u8]
 }
 
 // Writes the word for a kind and a tab, and answers the place after them.
-// As it is: (d) a number, as in `Row`.
+// As it is: (a) a number, as in `Row`.
 fn put_kind(out: &mut [u8], at: usize, kind: usize) -> usize
     requires { RoomFor out.old at (with_tab (shown_kind kind)) }
     ensures { Puts out.old at (with_tab (shown_kind kind)) out.new result }
@@ -97,7 +96,7 @@ fn put_kind(out: &mut [u8], at: usize, kind: usize) -> usize
 }
 
 // Writes item, spec and kind, and answers the place after them.
-// As it is: (d) the kind is a number, as in `Row`.
+// As it is: (a) the kind is a number, as in `Row`.
 fn put_start(out: &mut [u8], at: usize, item: usize, spec: usize, kind: usize) -> usize
     requires { RoomFor out.old at (line_start item spec kind) }
     ensures { Puts out.old at (line_start item spec kind) out.new result }

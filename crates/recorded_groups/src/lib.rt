@@ -1,5 +1,5 @@
 // A recorded answer to a group, held to ours, field by field. specs/GroupRecord.antt has the record's form.
-// As it is: (a) an operation is the C interface's number here; it is handed on as it stands to `parse`, which asks question 18 of it.
+// As it is: (a) an operation is the C interface's number here; `spec_list` asks question 18 of it, and here it is handed on.
 #![tactic(auto)]
 
 ghost use Rattle.std.specs.Prelude.{◌≡◌, true, ◌↔◌, ◌≤◌, length, drop};

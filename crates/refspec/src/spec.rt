@@ -1,6 +1,5 @@
 // What a spec instructs, and its prefix. Port of the crate's spec.rs.
-// As it is: (a) an operation is the C interface's number here, and a public function that took any may not ask for less; `parse` asks
-// question 18 of it.
+// As it is: (a) an operation is the C interface's number here, of which `parse` has asked question 18: 1 is a push, any other a fetch.
 ghost use Rattle.std.specs.Prelude.{◌≡◌, cond, length};
 ghost use Rattle.meaning.specs.Prefix.{name_prefix};
 ghost use Rattle.meaning.specs.Entries as entries;

@@ -1,6 +1,5 @@
 // Which byte of a line a refusal is about, if about one.
 ghost use Rattle.std.specs.Prelude.{◌≡◌, ◌≤◌, ℕ, length, position, take_while, zip, nat_eq};
-ghost use Rattle.meaning.specs.Limits.{program_bytes};
 ghost use Rattle.meaning.specs.Spec.{mode_of};
 ghost use Rattle.parse.specs.Places.{sign_length};
 ghost use Rattle.print.specs.Unshown.{unshown};

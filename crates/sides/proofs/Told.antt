@@ -14,8 +14,8 @@ side-told (Part at n) = refl
 side-told Head = refl
 
 -- ---- a `match` on a number
-pub side-one : (kind at n a b : ℕ) → kind ≡ 1 → a ≡ at → b ≡ n → Part a b ≡ side_from kind at n
-side-one kind at n a b e f g = rw (e, f, g)
+pub side-one : (kind at n : ℕ) → kind ≡ 1 → Part at n ≡ side_from kind at n
+side-one kind at n e = rw e
 
 pub side-rest : (kind at n : ℕ) → (kind ≡ 0 → ⊥) → (kind ≡ 1 → ⊥) → Head ≡ side_from kind at n
 side-rest zero at n a b = absurd (a refl)

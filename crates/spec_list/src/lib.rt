@@ -1,5 +1,5 @@
 // Reading a spec list: the questions in order, each record in turn, into a table of records by value.
-// As it is: (a) an operation is the C interface's number here; it is handed on as it stands to `parse`, which asks question 18 of it.
+// As it is: (a) an operation is the C interface's number here; question 18 is asked of it, and it is handed on to `parse`.
 #![tactic(auto)]
 
 ghost use Rattle.std.specs.Prelude.{◌≡◌, ◌+◌, ◌≤◌, length};

@@ -28,7 +28,8 @@ pub fn say_text<W: Write>(to: &mut W, t: &[u8]) -> io::Result<()>
     ensures { Says result (W.contents to.old) (W.contents to.new) (in_print t.now) }
 {
     let mut rest = t;
-    // As it is: (d) a step of the loop is what stands before a coded byte; `split` would pass over that byte, and `split_inclusive` leave it at the end.
+    // As it is: (d) a step of the loop is what stands before a coded byte; `split` would pass over that byte, and `split_inclusive` leave
+    // it at the end.
     while let Some(at) = first_coded(rest) {
         let (plain, others) = rest.split_at(at);
         say(to, plain)?;

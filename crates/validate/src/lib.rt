@@ -1,5 +1,5 @@
 // The validation of a row list: its conflicts, or its kept rows and its fixes. Port of the crate's match_group/validate.rs.
-// As it is: (a) an operation is the C interface's number here; it is handed on as it stands to `parse`, which asks question 18 of it.
+// As it is: (a) an operation is the C interface's number here; `spec_list` asks question 18 of it, and here it is handed on.
 #![tactic(auto)]
 
 ghost use Rattle.std.specs.Prelude.{◌≡◌, [], ◌≤◌, length};

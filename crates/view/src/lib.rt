@@ -1,5 +1,5 @@
 //! The source view: the bytes that a forward row's source has, as a part of the item list or of the spec list.
-// As it is: (a) an operation is the C interface's number here; it is handed on as it stands to `parse`, which asks question 18 of it.
+// As it is: (a) an operation is the C interface's number here; `spec_list` asks question 18 of it, and here it is handed on.
 #![tactic(auto)]
 
 ghost use Rattle.std.specs.Prelude.{◌≡◌, ◌+◌, ◌≤◌, length, take, drop};

@@ -6,5 +6,5 @@ use Prim.Native.Nat.{◌≤◌}
 use Rattle.negatives.specs.Negatives.{excluded_by}
 use Rattle.negatives.proofs.excluded_pieces.Given as goal
 
-abbrev pub invariant-loop-k : goal.invariant-loop-k
-invariant-loop-k l = (l.k ≤ l.count) × (excluded_by l.specs l.negatives l.k (l.a ++ (l.b ++ l.c)) ≡ false)
+abbrev pub invariant-loop-i : goal.invariant-loop-i
+invariant-loop-i l = (l.i ≤ l.count) × (excluded_by l.specs l.negatives l.i (l.a ++ (l.b ++ l.c)) ≡ false)
