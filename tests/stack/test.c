@@ -342,7 +342,7 @@ static void add_all(void)
     add_pair("4,097 bytes second", text("~:a", 4096), text("~:a", 4097), ROOM, 1);
 
     add_prefixes("256 names", names, 0, 65536);
-    add_prefixes("16 names in 1,024 bytes", texts(NAMES, 16, 1024), 0, 16384);
+    add_prefixes("16 names in 1,024 bytes", texts(NAMES, 16, 1024), 0, 8192);
     add_prefixes("65,536 bytes", and_byte(names, 0), 12, 256);
     add_listings("256 specs, 1,024 items", specs, items, 0, 16384);
     add_listings("256 specs but patterns", literals, items, 0, 16384);

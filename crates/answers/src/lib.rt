@@ -2,11 +2,14 @@
 #![tactic(auto)]
 
 ghost use Rattle.std.specs.Prelude.{◌≡◌};
-ghost use Rattle.answers.specs.Numbers.{mode_number, side_numbers, side_answer, flag_number, spec_refused, spec_accepted, spec_answer, instruction_refused, instruction_told, instruction_accepted, instruction_answer, prefix_refused, prefix_accepted, prefix_answer};
+ghost use Rattle.answers.specs.Numbers.{mode_number, side_numbers, side_answer, spec_refused, spec_accepted, spec_answer, instruction_refused, instruction_told, instruction_accepted, instruction_answer, prefix_refused, prefix_accepted, prefix_answer};
 
 use parse::types::{Mode, RefSpec, Side};
 use refspec::instruction::Instruction;
 use refusal::Refusal;
+
+// As it is: (a) what is told to C stands in records of numbers, 0 where a field has no meaning; so each answer has a refusal's number
+// beside its fields, and the three answers differ in their records.
 
 // A side of a spec: its kind, where it begins and how many bytes it has. In the header its three fields stand in the answers themselves.
 #[repr(C)]
@@ -46,18 +49,34 @@ pub struct PrefixAnswer {
     pub prefix: SideAnswer,
 }
 
-// A side by its three numbers.
-fn numbers(kind: u64, start: u64, length: u64) -> SideAnswer
-    ensures { result ≡ side_numbers kind start length }
-{
-    SideAnswer {
-        kind,
-        start,
-        length,
+impl SideAnswer {
+    // A side by its three numbers.
+    fn new(kind: u64, start: u64, length: u64) -> SideAnswer
+        ensures { result ≡ side_numbers kind start length }
+    {
+        SideAnswer {
+            kind,
+            start,
+            length,
+        }
+    }
+}
+
+// A side in numbers: 0 absent, 1 a place in the spec, 2 the supplied `HEAD`.
+impl From<Side> for SideAnswer {
+    ghost from_gives = { λ side a. a ≡ side_answer side };
+
+    fn from(side: Side) -> SideAnswer {
+        match side {
+            Side::Absent => SideAnswer::new(0, 0, 0),
+            Side::Part(at, n) => SideAnswer::new(1, at as u64, n as u64),
+            Side::Head => SideAnswer::new(2, 0, 0),
+        }
     }
 }
 
 // The number of a mode: 0 normal, 1 force, 2 negative.
+// As it is: (d) no `From`, for neither `Mode` nor `u64` is a type of this crate.
 fn mode_number(m: Mode) -> u64
     ensures { result ≡ mode_number m }
 {
@@ -68,27 +87,6 @@ fn mode_number(m: Mode) -> u64
     }
 }
 
-// A side in numbers: 0 absent, 1 a place in the spec, 2 the supplied `HEAD`.
-fn side_answer(side: Side) -> SideAnswer
-    ensures { result ≡ side_answer side }
-{
-    match side {
-        Side::Absent => numbers(0, 0, 0),
-        Side::Part(at, n) => numbers(1, at as u64, n as u64),
-        Side::Head => numbers(2, 0, 0),
-    }
-}
-
-// 1 where a non-fast-forward is allowed.
-fn flag(force: bool) -> u64
-    ensures { result ≡ flag_number force }
-{
-    if force {
-        return 1;
-    }
-    0
-}
-
 // A refused spec.
 fn spec_refused(n: u64) -> SpecAnswer
     ensures { result ≡ spec_refused n }
@@ -96,8 +94,8 @@ fn spec_refused(n: u64) -> SpecAnswer
     SpecAnswer {
         refusal: n,
         mode: 0,
-        source: side_answer(Side::Absent),
-        destination: side_answer(Side::Absent),
+        source: Side::Absent.into(),
+        destination: Side::Absent.into(),
     }
 }
 
@@ -105,14 +103,11 @@ fn spec_refused(n: u64) -> SpecAnswer
 fn spec_accepted(r: RefSpec) -> SpecAnswer
     ensures { result ≡ spec_accepted r }
 {
-    let mode = r.mode;
-    let src = r.src;
-    let dst = r.dst;
     SpecAnswer {
         refusal: 0,
-        mode: mode_number(mode),
-        source: side_answer(src),
-        destination: side_answer(dst),
+        mode: mode_number(r.mode),
+        source: r.src.into(),
+        destination: r.dst.into(),
     }
 }
 
@@ -124,8 +119,8 @@ fn told_refused(n: u64) -> InstructionAnswer
         refusal: n,
         kind: 0,
         force: 0,
-        source: side_answer(Side::Absent),
-        destination: side_answer(Side::Absent),
+        source: Side::Absent.into(),
+        destination: Side::Absent.into(),
     }
 }
 
@@ -136,9 +131,9 @@ fn told(kind: u64, force: bool, src: Side, dst: Side) -> InstructionAnswer
     InstructionAnswer {
         refusal: 0,
         kind,
-        force: flag(force),
-        source: side_answer(src),
-        destination: side_answer(dst),
+        force: u64::from(force),
+        source: src.into(),
+        destination: dst.into(),
     }
 }
 
@@ -173,7 +168,7 @@ fn place_refused(n: u64) -> PrefixAnswer
 {
     PrefixAnswer {
         refusal: n,
-        prefix: side_answer(Side::Absent),
+        prefix: Side::Absent.into(),
     }
 }
 
@@ -183,7 +178,7 @@ fn place(side: Side) -> PrefixAnswer
 {
     PrefixAnswer {
         refusal: 0,
-        prefix: side_answer(side),
+        prefix: side.into(),
     }
 }
 

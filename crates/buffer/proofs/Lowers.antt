@@ -3,7 +3,10 @@ use mathlib.Core.Path.{◌≡◌, refl, sym, ◌∙◌}
 use Prim.Native.Nat.{ℕ, ◌+◌, ◌≤◌, ◌<◌}
 use native.Mathlib.Numerals.{add-one}
 use native.Mathlib.Omega.{arith}
-use borrow.Author.Tests.{le-leb, lt-leb}
+use borrow.Author.Tests.{le-leb, lt-leb, ltb-true, ltb-false}
+use mathlib.Core.Bool.{Bool, true, false, cond}
+use lib.Dec.{ltb}
+use Rattle.std.specs.Char.{to_ascii_lowercase}
 use lib.ListN.{length, set, get_or, length-set, length-map, get_or-map}
 use lib.Seq.{paste, paste-zero, paste-suc}
 use Rattle.meaning.specs.Bytes.{Text, lower_byte, lower}
@@ -21,6 +24,15 @@ lower-before b h = rw (lt-leb 65 b h)
 -- a byte after them
 pub lower-after : (b : ℕ) → 90 < b → b ≡ lower_byte b
 lower-after b h = rw (le-leb 65 b (omega arith), lt-leb b 90 h)
+
+-- std's lower case of a byte
+pub lower-std : (b : ℕ) → to_ascii_lowercase b ≡ lower_byte b
+lower-std b = go (ltb b 65) (ltb b 91) refl refl
+  where
+    go : (p q : Bool) → ltb b 65 ≡ p → ltb b 91 ≡ q → cond p b (cond q (b + 32) b) ≡ lower_byte b
+    go true q e f = lower-before b (ltb-true b 65 e)
+    go false true e f = lower-capital b (ltb-false b 65 e) (ltb-true b 91 f)
+    go false false e f = lower-after b (omega (arith, ltb-false b 91 f))
 
 -- a text in lower case has as many bytes
 pub lower-length : (s : Text) → length (lower s) ≡ length s

@@ -1,6 +1,6 @@
 // Copying a text into a buffer, several bytes at once: they are read before the first is stored, so that it is one load and one store.
 ghost use Rattle.std.specs.Prelude.{◌≡◌, [], ◌∷◌, ◌+◌, ◌≤◌, ◌<◌, length, take, drop};
-ghost use Rattle.buffer.specs.Splice.{splice};
+ghost use Rattle.buffer.specs.Splice.{splice, RoomFor, Puts};
 
 // Stores four bytes one after the other.
 fn store_four(dst: &mut [u8], at: usize, a: u8, b: u8, c: u8, d: u8)
@@ -40,21 +40,19 @@ fn copy_eight(dst: &mut [u8], at: usize, src: &[u8], i: usize)
 
 // Writes src byte by byte, and answers the place after it.
 pub(crate) fn put_by_bytes(dst: &mut [u8], at: usize, src: &[u8]) -> usize
-    requires { at + length src.now ≤ length dst.old }
-    ensures { (dst.new ≡ splice dst.old at src.now) × (result ≡ at + length src.now) }
+    requires { RoomFor dst.old at src.now }
+    ensures { Puts dst.old at src.now dst.new result }
 {
-    let mut i = 0;
-    while i < src.len() {
-        dst[at + i] = src[i];
-        i += 1;
+    for (i, b) in src.iter().enumerate() {
+        dst[at + i] = *b;
     }
-    at + i
+    at + src.len()
 }
 
 // Writes src, which has four bytes to seven: the first four, and the last four over them. Answers the place after it.
 pub(crate) fn put_by_fours(dst: &mut [u8], at: usize, src: &[u8]) -> usize
-    requires { (4 ≤ length src.now) × (length src.now < 8) × (at + length src.now ≤ length dst.old) }
-    ensures { (dst.new ≡ splice dst.old at src.now) × (result ≡ at + length src.now) }
+    requires { (4 ≤ length src.now) × (length src.now < 8) × RoomFor dst.old at src.now }
+    ensures { Puts dst.old at src.now dst.new result }
 {
     let last = src.len() - 4;
     copy_four(dst, at, src, 0);
@@ -64,14 +62,12 @@ pub(crate) fn put_by_fours(dst: &mut [u8], at: usize, src: &[u8]) -> usize
 
 // Writes src, which has eight bytes or more: eight at a time while more are left, and the last eight over them. Answers the place after it.
 pub(crate) fn put_by_eights(dst: &mut [u8], at: usize, src: &[u8]) -> usize
-    requires { (8 ≤ length src.now) × (at + length src.now ≤ length dst.old) }
-    ensures { (dst.new ≡ splice dst.old at src.now) × (result ≡ at + length src.now) }
+    requires { (8 ≤ length src.now) × RoomFor dst.old at src.now }
+    ensures { Puts dst.old at src.now dst.new result }
 {
     let last = src.len() - 8;
-    let mut i = 0;
-    while i < last {
+    for i in (0..last).step_by(8) {
         copy_eight(dst, at + i, src, i);
-        i += 8;
     }
     copy_eight(dst, at + last, src, last);
     at + src.len()

@@ -1,9 +1,9 @@
 // Copying into a lent buffer.
 #![tactic(auto)]
 
-ghost use Rattle.std.specs.Prelude.{◌≡◌, [], ◌∷◌, ◌+◌, ◌<◌, ◌≤◌, length};
+ghost use Rattle.std.specs.Prelude.{◌≡◌, [], ◌∷◌, ◌+◌, ◌<◌, length};
 ghost use Rattle.meaning.specs.Bytes.{lower_byte, lower};
-ghost use Rattle.buffer.specs.Splice.{splice};
+ghost use Rattle.buffer.specs.Splice.{splice, RoomFor, Puts};
 
 mod copy;
 pub mod written;
@@ -12,8 +12,8 @@ use copy::{put_by_bytes, put_by_eights, put_by_fours};
 
 // Writes src into dst at a place, and answers the place after it.
 pub fn put(dst: &mut [u8], at: usize, src: &[u8]) -> usize
-    requires { at + length src.now ≤ length dst.old }
-    ensures { (dst.new ≡ splice dst.old at src.now) × (result ≡ at + length src.now) }
+    requires { RoomFor dst.old at src.now }
+    ensures { Puts dst.old at src.now dst.new result }
 {
     let n = src.len();
     if n < 4 {
@@ -38,21 +38,16 @@ pub fn put_byte(dst: &mut [u8], at: usize, b: u8) -> usize
 fn lower_byte(b: u8) -> u8
     ensures { result ≡ lower_byte b }
 {
-    match b {
-        b'A'..=b'Z' => b + 32,
-        _ => b,
-    }
+    b.to_ascii_lowercase()
 }
 
 // Writes src in lower case into dst at a place, and answers the place after it.
 pub fn put_lower(dst: &mut [u8], at: usize, src: &[u8]) -> usize
-    requires { at + length src.now ≤ length dst.old }
-    ensures { (dst.new ≡ splice dst.old at (lower src.now)) × (result ≡ at + length (lower src.now)) }
+    requires { RoomFor dst.old at src.now }
+    ensures { Puts dst.old at (lower src.now) dst.new result }
 {
-    let mut i = 0;
-    while i < src.len() {
-        dst[at + i] = lower_byte(src[i]);
-        i += 1;
+    for (i, b) in src.iter().enumerate() {
+        dst[at + i] = lower_byte(*b);
     }
-    at + i
+    at + src.len()
 }

@@ -2,8 +2,11 @@
 ghost use Rattle.std.specs.Prelude.{◌≡◌};
 ghost use Rattle.buffer.specs.Answers.{refused_with, short_with, done_with};
 
+use refusal::Refusal;
+
 // A refusal's number or 0, the number of the record that it carries, and the bytes written or, beside 17, a length for the buffer. A field
 // without a meaning is 0.
+// As it is: (a) the C interface's record of numbers, which each entry that writes answers.
 #[repr(C)]
 #[derive(Clone, Copy)]
 pub struct Written {
@@ -28,7 +31,7 @@ pub fn short(size: usize) -> Written
     ensures { result ≡ short_with size }
 {
     Written {
-        refusal: 17,
+        refusal: Refusal::BufferTooShort.number(),
         record: 0,
         length: size as u64,
     }

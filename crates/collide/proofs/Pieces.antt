@@ -1,13 +1,12 @@
 -- A literal in two pieces: what leads it and what is led, and the comparison with another and with a pattern. Assumes nothing.
-use Prim.Native.Nat.{ℕ, suc, ◌+◌, ◌-◌, ◌≤◌, ◌<◌}
+use Prim.Native.Nat.{ℕ, ◌+◌, ◌-◌, ◌≤◌}
 use native.Mathlib.Omega.{arith}
 use mathlib.Core.Path.{◌≡◌, refl, sym, ap, ◌∙◌}
-use mathlib.Core.Bool.{Bool, true, false, not, cond}
+use mathlib.Core.Bool.{Bool, true, false, cond}
 use mathlib.Core.List.{[], ◌∷◌, ◌++◌, append-nil}
-use mathlib.Core.Option.{Option, none, some}
-use borrow.Author.Tests.{not-true, not-false}
+use mathlib.Core.Option.{none, some}
 use lib.Dec.{eqb}
-use lib.ListN.{length, take, drop, length-drop}
+use lib.ListN.{length, take, drop}
 use lib.Seq.{drop-length}
 use Rattle.meaning.specs.Bytes.{Text, ◌and◌, same, begins, present, lower, object_id}
 use Rattle.meaning.specs.Limits.{spec_list_bytes, id_digits}
@@ -22,10 +21,8 @@ use Rattle.buffer.proofs.Splices.{splice-start}
 use Rattle.buffer.proofs.Lowers.{lower-length}
 use Rattle.glob.proofs.Joined.{and_assoc}
 use Rattle.matcher.specs.declared.types.Lead.{Lead}
-use Rattle.matcher.specs.declared.types.Lead.TheVariants as lead
-use Rattle.matcher.specs.Matching.{led_text}
-use Rattle.matcher.specs.Sides.{DigitsOf}
-use Rattle.collide.specs.Targets.{lead_bytes, body_bytes}
+use Rattle.matcher.specs.Matching.{led_text, lead_bytes, body_bytes}
+use Rattle.matcher.proofs.Leads.{led-pieces, lead-short}
 
 -- ---- the digits of an object id
 
@@ -40,59 +37,20 @@ module _ (t : Text) (id : object_id t ≡ true) where
       let n : length (lower t) ≡ length d = omega (arith, object-length t id, lower-length t) in
       h ∙ splice-start d (lower t) ∙ ap (λ (r : Text). lower t ++ r) (ap (λ (k : ℕ). drop k d) n ∙ drop-length d) ∙ append-nil (lower t)
 
--- the arms of a `match` on a lead whose digits are taken
-module _ (t : Text) (l : Lead) (h : DigitsOf t l) where
-  pub heads-id : l ≡ lead.HeadsDigits → object_id t ≡ true
-  heads-id e = rw e at h
-
-  pub digits-id : l ≡ lead.Digits → object_id t ≡ true
-  digits-id e = rw e at h
-
 -- ---- what leads and what is led
-
-led-is : (l : Lead) (t : Text) → lead_bytes l ++ body_bytes l t ≡ led_text l t
-led-is lead.AsIs t = refl
-led-is lead.Refs t = refl
-led-is lead.Heads t = refl
-led-is lead.HeadsDigits t = refl
-led-is lead.Digits t = refl
-
-body-length : (l : Lead) (t : Text) → length (body_bytes l t) ≡ length t
-body-length lead.AsIs t = refl
-body-length lead.Refs t = refl
-body-length lead.Heads t = refl
-body-length lead.HeadsDigits t = lower-length t
-body-length lead.Digits t = lower-length t
-
-lead-few : (l : Lead) → length (lead_bytes l) ≤ spec_list_bytes
-lead-few lead.AsIs = omega arith
-lead-few lead.Refs = omega arith
-lead-few lead.Heads = omega arith
-lead-few lead.HeadsDigits = omega arith
-lead-few lead.Digits = omega arith
 
 -- the pieces that calls gave have few bytes
 pub first-few : (l : Lead) (a : Text) → a ≡ lead_bytes l → length a ≤ spec_list_bytes
-first-few l a e = rw e (lead-few l)
-
-pub second-few : (l : Lead) (t b : Text) → b ≡ body_bytes l t → length t ≤ spec_list_bytes → length b ≤ spec_list_bytes
-second-few l t b e h = omega (arith, ap length e, body-length l t)
+first-few l a e = omega (arith, ap length e, lead-short l)
 
 -- and make the text that is led
 module _ (l : Lead) (t a b : Text) (ea : a ≡ lead_bytes l) (eb : b ≡ body_bytes l t) where
   pieces-led : a ++ b ≡ led_text l t
-  pieces-led = rw (ea, eb) (led-is l t)
+  pieces-led = rw (ea, eb) (led-pieces l t)
 
-  -- against a pattern
-  pub literal-led : (p q : Text) → literal_in p q (a ++ b) ≡ literal_in p q (led_text l t)
-  literal-led p q = ap (literal_in p q) pieces-led
-
-  -- against another literal
-  pub first-led : (u : Text) → cond (same (a ++ b) u) (some (a ++ b)) none ≡ cond (same (led_text l t) u) (some (led_text l t)) none
-  first-led u = rw pieces-led
-
-  pub second-led : (u : Text) → cond (same u (a ++ b)) (some u) none ≡ cond (same u (led_text l t)) (some u) none
-  second-led u = rw pieces-led
+-- two literals
+pub both-led : (l m : Lead) (t u a b c d : Text) → a ≡ lead_bytes l → b ≡ body_bytes l t → c ≡ lead_bytes m → d ≡ body_bytes m u → cond (same (a ++ b) (c ++ d)) (some (a ++ b)) none ≡ cond (same (led_text l t) (led_text m u)) (some (led_text l t)) none
+both-led l m t u a b c d ea eb ec ed = rw (pieces-led l t a b ea eb, pieces-led m u c d ec ed)
 
 -- ---- two pieces and two others
 
@@ -107,12 +65,12 @@ module _ (a b c d : Text) (h : length a ≤ length c) (r : Bool) (e : r ≡ same
   past = sym (e ∙ rw (append-nil d, rest_part c (length a)))
 
   -- what is past the first piece is not the same
-  pub past-not : not r ≡ true → false ≡ same (a ++ b) (c ++ d)
-  past-not n = sym (same-pairs a b c d h ∙ rw (past, not-true r n) (and-false (begins a c)))
+  pub past-not : r ≡ false → r ≡ same (a ++ b) (c ++ d)
+  past-not n = n ∙ sym (same-pairs a b c d h ∙ rw (past, n) (and-false (begins a c)))
 
   -- or it is, and the first piece decides
-  pub past-on : not r ≡ false → (v : Bool) → v ≡ begins a c → v ≡ same (a ++ b) (c ++ d)
-  past-on n v k = k ∙ sym (same-pairs a b c d h ∙ rw (past, not-false r n) (and-true (begins a c)))
+  pub past-on : r ≡ true → (v : Bool) → v ≡ begins a c → v ≡ same (a ++ b) (c ++ d)
+  past-on n v k = k ∙ sym (same-pairs a b c d h ∙ rw (past, n) (and-true (begins a c)))
 
 -- the pieces exchanged
 pub pairs-swap : (a b c d : Text) (r : Bool) → r ≡ same (c ++ d) (a ++ b) → r ≡ same (a ++ b) (c ++ d)

@@ -10,8 +10,7 @@ use Rattle.meaning.specs.Bytes.{Text}
 use Rattle.meaning.specs.Limits.{spec_bytes, spec_list_bytes}
 use Rattle.meaning.specs.Spec as meaning
 use Rattle.meaning.specs.Spec.{Answer, accepted, refused, is_negative}
-use Rattle.meaning.specs.Match.{Form, form_of}
-use Rattle.meaning.specs.Buffers.{Outputs}
+use Rattle.meaning.specs.Match.{form_of}
 use Rattle.meaning.specs.Collide as collide
 use Rattle.meaning.specs.Collide.{as_written, shared_by, collision, collide_bytes}
 use Rattle.parse.specs.declared.types.Side.{Side}
@@ -27,9 +26,9 @@ use Rattle.refspec.specs.Instructions.{side_text}
 use Rattle.refspec.proofs.Texts.{side-short}
 use Rattle.matcher.specs.declared.types.Target.{Target}
 use Rattle.matcher.specs.declared.types.Target.TheVariants as target
-use Rattle.matcher.specs.Matching.{target_meant, Completes, StarIn, TargetWithin}
+use Rattle.matcher.specs.Matching.{target_meant, Completes, TargetWithin}
 use Rattle.matcher.specs.Sides.{TargetStar, TargetFor}
-use Rattle.collide.specs.Targets.{form_written, TargetIn, Writes, report_after}
+use Rattle.collide.specs.Targets.{form_written, Writes, report_after}
 
 -- ---- where a spec writes
 
@@ -71,10 +70,6 @@ module _ (spec : Text) (r : RefSpec) (w : SidesWithin (length spec) r) (size : l
       }
 
 -- ---- two specs
-
--- the text that a call gave is that of the side
-pub stands-as : (t : Text) (s : meaning.Spec) (x : Target) → Writes t s x → (u : Text) → u ≡ t → TargetIn u x
-stands-as t s x w u e = rw e w.stands
 
 -- what their targets share is their collision
 pub collision-is : (t : Text) (s : meaning.Spec) (x : Target) → Writes t s x → (u : Text) (r : meaning.Spec) (y : Target) → Writes u r y → (t₁ u₁ : Text) → t₁ ≡ t → u₁ ≡ u → shared_by (form_written t₁ x) (form_written u₁ y) ≡ collision s r

@@ -1,23 +1,18 @@
 -- What two targets share, by the branches of the code. Assumes nothing.
-use Prim.Native.Nat.{ℕ, suc, ◌+◌, ◌-◌, ◌≤◌, ◌<◌}
-use native.Mathlib.Omega.{arith}
+use Prim.Native.Nat.{ℕ, suc, ◌+◌, ◌-◌}
 use native.Mathlib.Numerals.{add-one}
 use mathlib.Core.Path.{◌≡◌, refl, sym, ap, ◌∙◌}
-use mathlib.Core.Bool.{Bool, true, false, cond}
+use mathlib.Core.Bool.{Bool, true, false}
 use mathlib.Core.List.{◌++◌}
 use mathlib.Core.Option.{Option, none, some}
-use lib.ListN.{length, take, drop, length-take, length-drop}
-use Rattle.meaning.specs.Bytes.{Text, same, begins, ends}
-use Rattle.meaning.specs.Limits.{spec_list_bytes}
+use lib.ListN.{length, take, drop}
+use Rattle.meaning.specs.Bytes.{Text, begins, ends}
 use Rattle.meaning.specs.Match.{Form, literal, pattern}
-use Rattle.meaning.specs.Collide.{longer_start, longer_end, followed_by, literal_in, shared_by}
+use Rattle.meaning.specs.Collide.{longer_start, longer_end, followed_by, shared_by}
 use Rattle.text.proofs.Rests.{rest_part}
-use Rattle.matcher.specs.declared.types.Lead.{Lead}
 use Rattle.matcher.specs.declared.types.Target.{Target}
 use Rattle.matcher.specs.declared.types.Target.TheVariants as target
-use Rattle.matcher.specs.Matching.{led_text}
-use Rattle.matcher.specs.Sides.{DigitsOf}
-use Rattle.collide.specs.Targets.{form_written, TargetIn}
+use Rattle.collide.specs.Targets.{form_written}
 
 -- ---- two patterns
 
@@ -51,14 +46,6 @@ module _ (a c : Text) (o : Option Text) (r : Bool) (e : r ≡ begins a c) where
     unfolding longer_start
     start-neither h = rw (sym e ∙ n, sym k ∙ h)
 
--- the two parts of a text beside its star have few bytes
-module _ (t : Text) (star : ℕ) (few : length t ≤ spec_list_bytes) where
-  pub before-few : length (take star t) ≤ spec_list_bytes
-  before-few = omega (arith, length-take star t)
-
-  pub after-few : length (take (length t - (star + 1)) (drop (star + 1) t)) ≤ spec_list_bytes
-  after-few = rw (rest_part t (star + 1)) (omega (arith, length-drop (star + 1) t))
-
 rest-after : (t : Text) (star : ℕ) → take (length t - (star + 1)) (drop (star + 1) t) ≡ drop (suc star) t
 rest-after t star = rest_part t (star + 1) ∙ ap (λ (k : ℕ). drop k t) (add-one star)
 
@@ -68,46 +55,14 @@ pub patterns-as : (t : Text) (i : ℕ) (u : Text) (j : ℕ)
     ≡ shared_by (some (pattern (take i t) (drop (suc i) t))) (some (pattern (take j u) (drop (suc j) u)))
 patterns-as t i u j = rw (rest-after t i, rest-after u j)
 
--- ---- the arms of a `match` on a target
+-- ---- two targets of which one is nowhere
 
-module _ (t : Text) (r : Target) where
-  module _ (w : TargetIn t r) where
-    -- a star stands in its text
-    pub star-in : (i : ℕ) → r ≡ target.Pattern i → i < length t
-    star-in i e = rw e at w.starred
+-- the first
+pub first-absent : (t : Text) (r : Target) → r ≡ target.Absent → (g : Option Form) → none ≡ shared_by (form_written t r) g
+first-absent t r e g = rw e
 
-    -- digits are an object id
-    pub digits_in : (l : Lead) → r ≡ target.Literal l → DigitsOf t l
-    digits_in l e = rw e at w.digits
-
-  -- the second writes nowhere
-  pub with-absent : r ≡ target.Absent → (f : Form) → none ≡ shared_by (some f) (form_written t r)
-  with-absent e f = rw e
-
-  -- both to patterns
-  pub with-pattern : (i : ℕ) → r ≡ target.Pattern i → (f : Form) → shared_by (some f) (some (pattern (take i t) (drop (suc i) t))) ≡ shared_by (some f) (form_written t r)
-  with-pattern i e f = rw e
-
-  -- to a pattern and a literal
-  pub pattern-literal : (l : Lead) → r ≡ target.Literal l → (a b : Text) → literal_in a b (led_text l t) ≡ shared_by (some (pattern a b)) (form_written t r)
-  pattern-literal l e a b = rw e
-
-  -- to a literal and a pattern
-  pub literal-pattern : (i : ℕ) → r ≡ target.Pattern i → (u : Text) → literal_in (take i t) (drop (suc i) t) u ≡ shared_by (some (literal u)) (form_written t r)
-  literal-pattern i e u = rw e
-
-  -- both to literals
-  pub literal-literal : (l : Lead) → r ≡ target.Literal l → (u : Text) → cond (same u (led_text l t)) (some u) none ≡ shared_by (some (literal u)) (form_written t r)
-  literal-literal l e u = rw e
-
-  -- the first writes nowhere
-  pub absent-with : r ≡ target.Absent → (g : Option Form) → none ≡ shared_by (form_written t r) g
-  absent-with e g = rw e
-
-  -- to a pattern
-  pub pattern-with : (i : ℕ) → r ≡ target.Pattern i → (g : Option Form) → shared_by (some (pattern (take i t) (drop (suc i) t))) g ≡ shared_by (form_written t r) g
-  pattern-with i e g = rw e
-
-  -- to a literal
-  pub literal-with : (l : Lead) → r ≡ target.Literal l → (g : Option Form) → shared_by (some (literal (led_text l t))) g ≡ shared_by (form_written t r) g
-  literal-with l e g = rw e
+-- the second
+pub second-absent : (f : Option Form) (u : Text) (q : Target) → q ≡ target.Absent → none ≡ shared_by f (form_written u q)
+second-absent none u q e = refl
+second-absent (some (literal a)) u q e = rw e
+second-absent (some (pattern a b)) u q e = rw e

@@ -1,7 +1,7 @@
--- Where a spec writes, as a text and a target of it, and the two pieces of a literal that is led.
-use Rattle.std.specs.Prelude.{ℕ, suc, ◌≤◌, ◌≡◌, [], ◌∷◌, length, take, drop, replicate}
+-- Where a spec writes, as a text and a target of it, and room for the digits of a literal that is led.
+use Rattle.std.specs.Prelude.{suc, ◌≤◌, ◌≡◌, [], ◌∷◌, length, take, drop, replicate}
 use Rattle.std.proofs.Math.Option.{Option, none, some}
-use Rattle.meaning.specs.Bytes.{Text, bytes, lower}
+use Rattle.meaning.specs.Bytes.{Text, lower}
 use Rattle.meaning.specs.Limits.{spec_list_bytes, id_digits}
 use Rattle.meaning.specs.Spec.{Spec, Answer, accepted, read_spec}
 use Rattle.meaning.specs.Match.{Form, literal, pattern}
@@ -15,22 +15,6 @@ use Rattle.matcher.specs.declared.types.Target.{Target}
 use Rattle.matcher.specs.declared.types.Target.TheVariants as target
 use Rattle.matcher.specs.Matching.{led_text}
 use Rattle.matcher.specs.Sides.{TargetStar, TargetDigits}
-
--- the bytes that lead a literal
-abbrev pub lead_bytes : Lead → Text
-lead_bytes lead.AsIs = []
-lead_bytes lead.Refs = bytes "refs/"
-lead_bytes lead.Heads = bytes "refs/heads/"
-lead_bytes lead.HeadsDigits = bytes "refs/heads/"
-lead_bytes lead.Digits = []
-
--- the bytes that are led
-abbrev pub body_bytes : Lead → Text → Text
-body_bytes lead.AsIs t = t
-body_bytes lead.Refs t = t
-body_bytes lead.Heads t = t
-body_bytes lead.HeadsDigits t = lower t
-body_bytes lead.Digits t = lower t
 
 -- room for the digits of an object id, which holds them in lower case where they are taken
 abbrev pub digit_room : Lead → Text → Text

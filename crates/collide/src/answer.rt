@@ -4,10 +4,14 @@ ghost use Rattle.std.proofs.Math.Option.{some};
 ghost use Rattle.meaning.specs.Limits.{spec_list_bytes};
 ghost use Rattle.meaning.specs.Spec.{accepted};
 ghost use Rattle.meaning.specs.Buffers.{MeetsMaybe};
+ghost use Rattle.refusal.specs.Numbers.{number_of};
 ghost use Rattle.collide.specs.Answers.{refused_with, never, short_with, written_with};
+
+use refusal::Refusal;
 
 // A refusal's number or 0, which of the two specs is refused, 1 where they collide, and the bytes written or, beside 17, a length for the
 // buffer. A field without a meaning is 0.
+// As it is: (a) C reads this record, whose fields are numbers of 64 bits.
 #[repr(C)]
 #[derive(Clone, Copy)]
 pub struct Collision {
@@ -15,18 +19,6 @@ pub struct Collision {
     pub which: u64,
     pub collides: u64,
     pub length: u64,
-}
-
-// The first or the second spec is refused.
-pub(crate) fn refused(refusal: u64, which: u64) -> Collision
-    ensures { result ≡ refused_with refusal which }
-{
-    Collision {
-        refusal,
-        which,
-        collides: 0,
-        length: 0,
-    }
 }
 
 // No destination is written to under both.
@@ -41,15 +33,26 @@ pub(crate) fn none() -> Collision
     }
 }
 
+// The first or the second spec, 1 or 2, is refused.
+// As it is: (a) C reads which of them it is as a number.
+pub(crate) fn refused(refusal: Refusal, which: u64) -> Collision
+    ensures { result ≡ refused_with (number_of refusal) which }
+{
+    Collision {
+        refusal: refusal.number(),
+        which,
+        ..none()
+    }
+}
+
 // The buffer is too short for so many bytes.
 fn short(size: usize) -> Collision
     ensures { result ≡ short_with size }
 {
     Collision {
-        refusal: 17,
-        which: 0,
-        collides: 0,
+        refusal: Refusal::BufferTooShort.number(),
         length: size as u64,
+        ..none()
     }
 }
 
@@ -58,10 +61,9 @@ fn written(size: usize) -> Collision
     ensures { result ≡ written_with size }
 {
     Collision {
-        refusal: 0,
-        which: 0,
         collides: 1,
         length: size as u64,
+        ..none()
     }
 }
 
@@ -72,9 +74,10 @@ pub(crate) fn destination(a: &[u8], b: &[u8], out: &mut [u8]) -> Collision
 {
     let size = a.len() + b.len();
     if out.len() < size {
-        return short(size);
+        short(size)
+    } else {
+        let i = buffer::put(out, 0, a);
+        buffer::put(out, i, b);
+        written(size)
     }
-    let i = buffer::put(out, 0, a);
-    buffer::put(out, i, b);
-    written(size)
 }

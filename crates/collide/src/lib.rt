@@ -10,8 +10,6 @@ ghost use Rattle.meaning.specs.Buffers.{MeetsMaybe};
 ghost use Rattle.meaning.specs.Collide.{shared_by, collision, collide_bytes};
 ghost use Rattle.parse.specs.Places.{SidesWithin, spec_meant};
 ghost use Rattle.refspec.specs.Instructions.{side_text};
-ghost use Rattle.matcher.specs.Matching.{led_text};
-ghost use Rattle.matcher.specs.Sides.{DigitsOf};
 ghost use Rattle.collide.specs.Targets.{form_written, TargetIn, Writes, report_after};
 
 pub mod answer;
@@ -21,9 +19,9 @@ mod pattern;
 use answer::{Collision, none, refused};
 use literal::{literal_in, two_literals};
 use matcher::needle::target_of;
-use matcher::types::{Lead, Target};
+use matcher::types::Target;
 use parse::parse;
-use parse::types::{RefSpec, is_negative};
+use parse::types::RefSpec;
 use pattern::starts_and_ends;
 use refspec::side::text_of;
 
@@ -32,12 +30,11 @@ fn target_in(spec: &[u8], r: RefSpec) -> Target
     requires { SidesWithin (length spec.now) r × (length spec.now ≤ spec_bytes) }
     ensures { Writes (side_text spec.now r.dst) (spec_meant spec.now r) result }
 {
-    let mode = r.mode;
-    if is_negative(mode) {
-        return Target::Absent;
+    if r.mode.is_negative() {
+        Target::Absent
+    } else {
+        target_of(spec, r.dst)
     }
-    let dst = r.dst;
-    target_of(spec, dst)
 }
 
 // Two patterns whose stars stand at their places.
@@ -48,39 +45,17 @@ fn two_patterns(t: &[u8], i: usize, u: &[u8], j: usize, out: &mut [u8]) -> Colli
     starts_and_ends(&t[..i], &t[i + 1..], &u[..j], &u[j + 1..], out)
 }
 
-// A pattern and what the other spec writes to.
-fn with_pattern(t: &[u8], star: usize, u: &[u8], other: Target, out: &mut [u8]) -> Collision
-    requires { (star < length t.now) × (length t.now ≤ spec_list_bytes) × TargetIn u.now other }
-    ensures { MeetsMaybe (accepted (shared_by (some (pattern (take star t.now) (drop (suc star) t.now))) (form_written u.now other) ∷ [])) out.old out.new result.refusal result.which result.collides result.length }
-{
-    match other {
-        Target::Absent => none(),
-        Target::Pattern(at) => two_patterns(t, star, u, at, out),
-        Target::Literal(lead) => literal_in(t, star, u, lead, out),
-    }
-}
-
-// A literal and what the other spec writes to.
-fn with_literal(t: &[u8], lead: Lead, u: &[u8], other: Target, out: &mut [u8]) -> Collision
-    requires { DigitsOf t.now lead × (length t.now ≤ spec_list_bytes) × TargetIn u.now other }
-    ensures { MeetsMaybe (accepted (shared_by (some (literal (led_text lead t.now))) (form_written u.now other) ∷ [])) out.old out.new result.refusal result.which result.collides result.length }
-{
-    match other {
-        Target::Absent => none(),
-        Target::Pattern(at) => literal_in(u, at, t, lead, out),
-        Target::Literal(led) => two_literals(t, lead, u, led, out),
-    }
-}
-
 // What two texts are written as.
 fn two_targets(t: &[u8], one: Target, u: &[u8], other: Target, out: &mut [u8]) -> Collision
     requires { TargetIn t.now one × TargetIn u.now other }
     ensures { MeetsMaybe (accepted (shared_by (form_written t.now one) (form_written u.now other) ∷ [])) out.old out.new result.refusal result.which result.collides result.length }
 {
-    match one {
-        Target::Absent => none(),
-        Target::Pattern(star) => with_pattern(t, star, u, other, out),
-        Target::Literal(lead) => with_literal(t, lead, u, other, out),
+    match (one, other) {
+        (Target::Absent, _) | (_, Target::Absent) => none(),
+        (Target::Pattern(i), Target::Pattern(j)) => two_patterns(t, i, u, j, out),
+        (Target::Pattern(star), Target::Literal(lead)) => literal_in(t, star, u, lead, out),
+        (Target::Literal(lead), Target::Pattern(star)) => literal_in(u, star, t, lead, out),
+        (Target::Literal(lead), Target::Literal(led)) => two_literals(t, lead, u, led, out),
     }
 }
 
@@ -91,10 +66,8 @@ fn two_specs(first: &[u8], s: RefSpec, second: &[u8], r: RefSpec, out: &mut [u8]
 {
     let one = target_in(first, s);
     let other = target_in(second, r);
-    let side = s.dst;
-    let t = text_of(first, b"HEAD", side);
-    let other_side = r.dst;
-    let u = text_of(second, b"HEAD", other_side);
+    let t = text_of(first, b"HEAD", s.dst);
+    let u = text_of(second, b"HEAD", r.dst);
     two_targets(t, one, u, other, out)
 }
 
@@ -105,7 +78,7 @@ fn with_second(first: &[u8], s: RefSpec, second: &[u8], out: &mut [u8]) -> Colli
 {
     match parse(0, second) {
         Ok(r) => two_specs(first, s, second, r, out),
-        Err(q) => refused(q.number(), 2),
+        Err(q) => refused(q, 2),
     }
 }
 
@@ -115,6 +88,6 @@ pub fn collide(first: &[u8], second: &[u8], out: &mut [u8]) -> Collision
 {
     match parse(0, first) {
         Ok(s) => with_second(first, s, second, out),
-        Err(q) => refused(q.number(), 1),
+        Err(q) => refused(q, 1),
     }
 }

@@ -1,35 +1,22 @@
 // A literal destination as two pieces, what leads it and what is led: it is compared and written without being put together.
 ghost use Rattle.std.specs.Prelude.{◌≡◌, true, cond, [], ◌∷◌, ◌++◌, suc, ◌<◌, ◌≤◌, length, take, drop};
 ghost use Rattle.std.proofs.Math.Option.{none, some};
-ghost use Rattle.meaning.specs.Bytes.{bytes, same, lower, object_id};
+ghost use Rattle.meaning.specs.Bytes.{same, lower, object_id};
 ghost use Rattle.meaning.specs.Limits.{spec_list_bytes};
 ghost use Rattle.meaning.specs.Spec.{accepted};
 ghost use Rattle.meaning.specs.Buffers.{MeetsMaybe};
 ghost use Rattle.meaning.specs.Collide.{literal_in};
-ghost use Rattle.matcher.specs.Matching.{led_text};
+ghost use Rattle.matcher.specs.Matching.{led_text, body_bytes};
 ghost use Rattle.matcher.specs.Sides.{DigitsOf};
-ghost use Rattle.collide.specs.Targets.{lead_bytes, body_bytes, digit_room};
+ghost use Rattle.collide.specs.Targets.{digit_room};
 
 use super::answer::{Collision, destination, none};
 use glob::pieces::{pieces_glob, pieces_same};
 use limits::ID_DIGITS;
 use matcher::types::Lead;
 
-// The bytes that lead a literal: all of `refs/heads/`, its first five, or none.
-fn lead_bytes(heads: &[u8], lead: Lead) -> &[u8]
-    requires { heads.now ≡ bytes "refs/heads/" }
-    ensures { result.now ≡ lead_bytes lead }
-{
-    match lead {
-        Lead::AsIs => &heads[..0],
-        Lead::Refs => &heads[..5],
-        Lead::Heads => heads,
-        Lead::HeadsDigits => heads,
-        Lead::Digits => &heads[..0],
-    }
-}
-
 // The digits of an object id in lower case.
+// As it is: (a) there is no heap, so they stand in an array.
 fn lower_digits(t: &[u8]) -> [u8; ID_DIGITS]
     requires { object_id t.now ≡ true }
     ensures { result ≡ lower t.now }
@@ -45,11 +32,8 @@ fn digit_room(lead: Lead, t: &[u8]) -> [u8; ID_DIGITS]
     ensures { result ≡ digit_room lead t.now }
 {
     match lead {
-        Lead::AsIs => [0u8; ID_DIGITS],
-        Lead::Refs => [0u8; ID_DIGITS],
-        Lead::Heads => [0u8; ID_DIGITS],
-        Lead::HeadsDigits => lower_digits(t),
-        Lead::Digits => lower_digits(t),
+        Lead::AsIs | Lead::Refs | Lead::Heads => [0u8; ID_DIGITS],
+        Lead::HeadsDigits | Lead::Digits => lower_digits(t),
     }
 }
 
@@ -59,11 +43,8 @@ fn body_bytes<'a>(lead: Lead, t: &'a [u8], digits: &'a [u8]) -> &'a [u8]
     ensures { result.now ≡ body_bytes lead t.now }
 {
     match lead {
-        Lead::AsIs => t,
-        Lead::Refs => t,
-        Lead::Heads => t,
-        Lead::HeadsDigits => digits,
-        Lead::Digits => digits,
+        Lead::AsIs | Lead::Refs | Lead::Heads => t,
+        Lead::HeadsDigits | Lead::Digits => digits,
     }
 }
 
@@ -72,10 +53,7 @@ fn same_past(a: &[u8], b: &[u8], c: &[u8], d: &[u8]) -> bool
     requires { length a.now ≤ length c.now }
     ensures { result ≡ same (a.now ++ b.now) (c.now ++ d.now) }
 {
-    if !pieces_same(b, &c[a.len()..], d, &d[..0]) {
-        return false;
-    }
-    compare::begins(a, c)
+    pieces_same(b, &c[a.len()..], d, &[]) && compare::begins(a, c)
 }
 
 // Two pieces are two others.
@@ -83,9 +61,10 @@ fn pairs_same(a: &[u8], b: &[u8], c: &[u8], d: &[u8]) -> bool
     ensures { result ≡ same (a.now ++ b.now) (c.now ++ d.now) }
 {
     if a.len() <= c.len() {
-        return same_past(a, b, c, d);
+        same_past(a, b, c, d)
+    } else {
+        same_past(c, d, a, b)
     }
-    same_past(c, d, a, b)
 }
 
 // Two literals in two pieces each.
@@ -94,20 +73,10 @@ fn two_pairs(a: &[u8], b: &[u8], c: &[u8], d: &[u8], out: &mut [u8]) -> Collisio
     ensures { MeetsMaybe (accepted (cond (same (a.now ++ b.now) (c.now ++ d.now)) (some (a.now ++ b.now)) none ∷ [])) out.old out.new result.refusal result.which result.collides result.length }
 {
     if pairs_same(a, b, c, d) {
-        return destination(a, b, out);
+        destination(a, b, out)
+    } else {
+        none()
     }
-    none()
-}
-
-// A literal in two pieces, and another.
-fn pair_and_literal(a: &[u8], b: &[u8], t: &[u8], lead: Lead, out: &mut [u8]) -> Collision
-    requires { (length a.now ≤ spec_list_bytes) × (length b.now ≤ spec_list_bytes) × DigitsOf t.now lead }
-    ensures { MeetsMaybe (accepted (cond (same (a.now ++ b.now) (led_text lead t.now)) (some (a.now ++ b.now)) none ∷ [])) out.old out.new result.refusal result.which result.collides result.length }
-{
-    let x = digit_room(lead, t);
-    let c = lead_bytes(b"refs/heads/", lead);
-    let d = body_bytes(lead, t, &x);
-    two_pairs(a, b, c, d, out)
 }
 
 // Two literals: they collide where both are completed to one text.
@@ -115,10 +84,15 @@ pub(crate) fn two_literals(t: &[u8], lead: Lead, u: &[u8], other: Lead, out: &mu
     requires { DigitsOf t.now lead × DigitsOf u.now other × (length t.now ≤ spec_list_bytes) }
     ensures { MeetsMaybe (accepted (cond (same (led_text lead t.now) (led_text other u.now)) (some (led_text lead t.now)) none ∷ [])) out.old out.new result.refusal result.which result.collides result.length }
 {
-    let x = digit_room(lead, t);
-    let a = lead_bytes(b"refs/heads/", lead);
-    let b = body_bytes(lead, t, &x);
-    pair_and_literal(a, b, u, other, out)
+    let digits = digit_room(lead, t);
+    let others = digit_room(other, u);
+    two_pairs(
+        lead.bytes(),
+        body_bytes(lead, t, &digits),
+        other.bytes(),
+        body_bytes(other, u, &others),
+        out,
+    )
 }
 
 // A literal in two pieces, and a pattern p whose star stands at a place.
@@ -126,10 +100,11 @@ fn pair_in(p: &[u8], star: usize, a: &[u8], b: &[u8], out: &mut [u8]) -> Collisi
     requires { (star < length p.now) × (length a.now ≤ spec_list_bytes) × (length b.now ≤ spec_list_bytes) }
     ensures { MeetsMaybe (accepted (literal_in (take star p.now) (drop (suc star) p.now) (a.now ++ b.now) ∷ [])) out.old out.new result.refusal result.which result.collides result.length }
 {
-    if pieces_glob(p, star, a, b, &b[..0]) {
-        return destination(a, b, out);
+    if pieces_glob(p, star, a, b, &[]) {
+        destination(a, b, out)
+    } else {
+        none()
     }
-    none()
 }
 
 // A literal and a pattern p: they collide where the pattern matches the completed text.
@@ -137,8 +112,6 @@ pub(crate) fn literal_in(p: &[u8], star: usize, t: &[u8], lead: Lead, out: &mut 
     requires { (star < length p.now) × DigitsOf t.now lead × (length t.now ≤ spec_list_bytes) }
     ensures { MeetsMaybe (accepted (literal_in (take star p.now) (drop (suc star) p.now) (led_text lead t.now) ∷ [])) out.old out.new result.refusal result.which result.collides result.length }
 {
-    let x = digit_room(lead, t);
-    let front = lead_bytes(b"refs/heads/", lead);
-    let back = body_bytes(lead, t, &x);
-    pair_in(p, star, front, back, out)
+    let digits = digit_room(lead, t);
+    pair_in(p, star, lead.bytes(), body_bytes(lead, t, &digits), out)
 }

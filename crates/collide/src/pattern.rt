@@ -14,12 +14,12 @@ fn with_end(start: &[u8], b: &[u8], d: &[u8], out: &mut [u8]) -> Collision
     ensures { MeetsMaybe (accepted (followed_by (some start.now) (longer_end b.now d.now) ∷ [])) out.old out.new result.refusal result.which result.collides result.length }
 {
     if compare::ends(b, d) {
-        return destination(start, d, out);
+        destination(start, d, out)
+    } else if compare::ends(d, b) {
+        destination(start, b, out)
+    } else {
+        none()
     }
-    if compare::ends(d, b) {
-        return destination(start, b, out);
-    }
-    none()
 }
 
 // The longer of the starts a and c, if one begins the other, followed by the longer of the ends b and d.
@@ -28,10 +28,10 @@ pub(crate) fn starts_and_ends(a: &[u8], b: &[u8], c: &[u8], d: &[u8], out: &mut 
     ensures { MeetsMaybe (accepted (followed_by (longer_start a.now c.now) (longer_end b.now d.now) ∷ [])) out.old out.new result.refusal result.which result.collides result.length }
 {
     if compare::begins(a, c) {
-        return with_end(c, b, d, out);
+        with_end(c, b, d, out)
+    } else if compare::begins(c, a) {
+        with_end(a, b, d, out)
+    } else {
+        none()
     }
-    if compare::begins(c, a) {
-        return with_end(a, b, d, out);
-    }
-    none()
 }

@@ -9,7 +9,7 @@ ghost use Rattle.meaning.specs.Limits.{program_bytes};
 
 use limits::{ITEM_LIST_BYTES, SPEC_LIST_BYTES};
 use std::io::Write;
-use stdio::{INPUT_ROOM, Input, finish};
+use stdio::{INPUT_ROOM, finish};
 use text_program::{gather_or_tell, read_text};
 
 mod pairs;
@@ -23,16 +23,15 @@ fn show<W: Write, E: Write>(output: &mut W, errors: &mut E, input: &[u8])
     let mut specs = [0u8; SPEC_LIST_BYTES];
     let mut items = [0u8; ITEM_LIST_BYTES];
     let g = gather_or_tell(errors, input, &mut specs, &mut items);
-    if g.reason == 0 {
-        let whole = show_pairs(output, input);
-        finish(errors, whole);
+    if g.refused.is_none() {
+        finish(errors, show_pairs(output, input));
     }
 }
 
+// As it is: (d) each program has a main of its own, and what it does with the text is its own.
 fn main(rt: HostRuntime) {
     let mut input = [0u8; INPUT_ROOM];
-    match read_text(&mut rt.stdin(), &mut rt.stderr(), &mut input) {
-        Input::Read(n) => show(&mut rt.stdout(), &mut rt.stderr(), &input[..n]),
-        Input::Failed => {}
+    if let Ok(n) = read_text(&mut rt.stdin(), &mut rt.stderr(), &mut input) {
+        show(&mut rt.stdout(), &mut rt.stderr(), &input[..n]);
     }
 }

@@ -14,12 +14,10 @@ fn begins_by_bytes(p: &[u8], s: &[u8]) -> bool
     requires { length p.now ≤ length s.now }
     ensures { result ≡ begins p.now s.now }
 {
-    let mut i = 0;
-    while i < p.len() {
+    for i in 0..p.len() {
         if s[i] != p[i] {
             return false;
         }
-        i += 1;
     }
     true
 }
@@ -60,12 +58,10 @@ fn begins_by_eights(p: &[u8], s: &[u8]) -> bool
     if !eight_agree(p, s, last) {
         return false;
     }
-    let mut i = 0;
-    while i < last {
+    for i in (0..last).step_by(8) {
         if !eight_agree(p, s, i) {
             return false;
         }
-        i += 8;
     }
     true
 }
@@ -101,7 +97,7 @@ pub fn same(s: &[u8], p: &[u8]) -> bool
 pub fn ends(p: &[u8], s: &[u8]) -> bool
     ensures { result ≡ ends p.now s.now }
 {
-    if p.len() == 0 {
+    if p.is_empty() {
         return true;
     }
     if s.len() < p.len() {

@@ -2,22 +2,15 @@
 ghost use Rattle.std.specs.Prelude.{◌≡◌, ◌+◌, ◌≤◌, ◌<◌, length, drop};
 ghost use Rattle.compare.specs.Word.{number};
 
-// A byte as a number.
-fn wide(b: u8) -> u64
-    ensures { (result ≡ b) × (result < 256) }
-{
-    b as u64
-}
-
 // The number that four bytes of s make from i on, the first the highest.
 pub fn half(s: &[u8], i: usize) -> u64
     requires { i + 4 ≤ length s.now }
     ensures { (result ≡ number 0 4 (drop i s.now)) × (result < 4294967296) }
 {
-    let a = wide(s[i]);
-    let b = wide(s[i + 1]);
-    let c = wide(s[i + 2]);
-    let d = wide(s[i + 3]);
+    let a = u64::from(s[i]);
+    let b = u64::from(s[i + 1]);
+    let c = u64::from(s[i + 2]);
+    let d = u64::from(s[i + 3]);
     ((a * 256 + b) * 256 + c) * 256 + d
 }
 

@@ -3,14 +3,11 @@ use mathlib.Core.Path.{◌≡◌, ap, ◌∙◌}
 use mathlib.Core.List.{List, [], ◌++◌}
 use Prim.Native.Nat.{ℕ, ◌+◌, ◌*◌, ◌≤◌, ◌<◌}
 use native.Mathlib.Omega.{arith}
-use mir.Val.{Fits}
-use mir.Syntax.{w64}
 use lib.ListN.{length, get_or, drop, length-append}
 use Rattle.meaning.specs.Bytes.{Text}
-use Rattle.meaning.specs.Limits.{row_list_bytes}
 use Rattle.buffer.specs.Splice.{splice}
 use Rattle.text.proofs.Rests.{rest-cons, rest_end}
-use Rattle.buffer.proofs.Writing.{Writing, writing-starts, writing-room, writing_more, written-place, written-whole}
+use Rattle.buffer.proofs.Writing.{Writing, writing-room, writing_more, written-place, written-whole}
 use Rattle.conflict.specs.Sizes.{conflict_source_most}
 use Rattle.conflict.specs.Shared.{source_at, sources_at}
 

@@ -58,21 +58,21 @@ module _ (x k y l : ℕ) (ex : x ≡ length (number_bytes k)) (ey : y ≡ length
 
 -- the source of the row at a place, by its fields
 module _ (s : Text) (p : ℕ) (f : RowPlace) (w : Finds s (row_at s p) f) where
-  source-pieces : source_at s p ≡ number_bytes f.spec ++ (number_bytes f.kind ++ text_bytes (part_at s f.src_at f.src_len))
+  source-pieces : source_at s p ≡ number_bytes f.spec ++ (number_bytes f.kind ++ text_bytes (part_at s f.src.at f.src.len))
   unfolding source_at source_bytes row_meant
   source-pieces = rw (← w.means)
 
-  module _ (short : length s ≤ row_list_bytes) (x y z : ℕ) (ex : x ≡ length (number_bytes f.spec)) (ey : y ≡ length (number_bytes f.kind)) (ez : z ≡ length (number_bytes f.src_len)) where
-    pub source_fits : Fits w64 (x + y + z + f.src_len)
-    source_fits = omega (arith, few x f.spec ex, few y f.kind ey, few z f.src_len ez, w.source-within)
+  module _ (short : length s ≤ row_list_bytes) (x y z : ℕ) (ex : x ≡ length (number_bytes f.spec)) (ey : y ≡ length (number_bytes f.kind)) (ez : z ≡ length (number_bytes f.src.len)) where
+    pub source_fits : Fits w64 (x + y + z + f.src.len)
+    source_fits = omega (arith, few x f.spec ex, few y f.kind ey, few z f.src.len ez, w.source-within)
 
-    pub source-small : x + y + z + f.src_len ≤ conflict_source_most
-    source-small = omega (arith, few x f.spec ex, few y f.kind ey, few z f.src_len ez, w.source-within)
+    pub source-small : x + y + z + f.src.len ≤ conflict_source_most
+    source-small = omega (arith, few x f.spec ex, few y f.kind ey, few z f.src.len ez, w.source-within)
 
-    pub source-size : x + y + z + f.src_len ≡ length (source_at s p)
+    pub source-size : x + y + z + f.src.len ≡ length (source_at s p)
     source-size =
-        let t = text-long s f.src_at f.src_len w.source-within z ez in
-        let u = text_bytes (part_at s f.src_at f.src_len) in
+        let t = text-long s f.src.at f.src.len w.source-within z ez in
+        let u = text_bytes (part_at s f.src.at f.src.len) in
         rw (source-pieces, length-append (number_bytes f.spec) (number_bytes f.kind ++ u), length-append (number_bytes f.kind) u) (omega arith)
 
   module _ (d : Text) (at : ℕ) (fits : at + length (source_at s p) ≤ length d) where
@@ -80,7 +80,7 @@ module _ (s : Text) (p : ℕ) (f : RowPlace) (w : Finds s (row_at s p) f) where
     whole = source_at s p
 
     abbrev text : Text
-    text = text_bytes (part_at s f.src_at f.src_len)
+    text = text_bytes (part_at s f.src.at f.src.len)
 
     start : Writing d at whole d at whole
     start = writing-starts d at whole fits
@@ -99,10 +99,10 @@ module _ (s : Text) (p : ℕ) (f : RowPlace) (w : Finds s (row_at s p) f) where
         kind-put : Writing d at whole d₂ j text
         kind-put = writing_more d at whole d₁ i (number_bytes f.kind ++ text) spec-put (number_bytes f.kind) text refl d₂ j p₂ e₂
 
-        pub source-room : j + length (text_bytes (part_at s f.src_at f.src_len)) ≤ length d₂
+        pub source-room : j + length (text_bytes (part_at s f.src.at f.src.len)) ≤ length d₂
         source-room = writing-room d at whole d₂ j text kind-put text [] (sym (append-nil text))
 
-        module _ (d₃ : Text) (k : ℕ) (p₃ : d₃ ≡ splice d₂ j (text_bytes (part_at s f.src_at f.src_len))) (e₃ : k ≡ j + length (text_bytes (part_at s f.src_at f.src_len))) where
+        module _ (d₃ : Text) (k : ℕ) (p₃ : d₃ ≡ splice d₂ j (text_bytes (part_at s f.src.at f.src.len))) (e₃ : k ≡ j + length (text_bytes (part_at s f.src.at f.src.len))) where
           all-put : Writing d at whole d₃ k []
           all-put = writing_more d at whole d₂ j text kind-put text [] (sym (append-nil text)) d₃ k p₃ e₃
 

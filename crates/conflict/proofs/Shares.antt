@@ -22,7 +22,7 @@ use Rattle.buffer.proofs.Splices.{splice-none}
 use Rattle.buffer.proofs.Writing.{Writing, writing-starts, writing-room, writing_more, written-place, written-whole}
 use Rattle.number.proofs.Bytes.{bytes-few}
 use Rattle.parse.specs.Places.{part_at}
-use Rattle.row_fields.specs.declared.Stretch.{Stretch}
+use Rattle.list.specs.declared.stretch.Stretch.{Stretch}
 use Rattle.row_fields.specs.Stages.{destination_in, StretchSpells}
 use Rattle.order.specs.Sorting.{firsts_by}
 use Rattle.keys.specs.Keys.{row_at, same_at, source_key}
@@ -150,9 +150,6 @@ module _ (s : Text) (l : List ℕ) (run : OneRun s l) where
 
     pub firsts-short : length l ≤ row_list_bytes → length (take n e) ≤ row_list_bytes
     firsts-short h = omega (arith, firsts-count)
-
-    pub firsts-pair : length l ≡ 2 → length (take n e) ≤ row_list_bytes
-    firsts-pair h = omega (arith, firsts-count)
 
     whole : 2 ≤ n → run_bytes s l ≡ listed_at s (take n e)
     unfolding run_bytes listed_at

@@ -1,9 +1,10 @@
 //! The conflict of a run, the rows of one destination, if two of them have different sources: measured and written. Port of
 //! `Issue::Conflict` and of how it is found in the crate's match_group/validate.rs.
+// As it is: (a) as for `order::sort`, the places and the scratch are lent.
 #![tactic(auto)]
 
 ghost use Rattle.std.specs.Prelude.{◌≡◌, ◌+◌, ◌*◌, ◌≤◌, ◌<◌, length};
-ghost use Rattle.buffer.specs.Splice.{splice};
+ghost use Rattle.buffer.specs.Splice.{RoomFor, Puts};
 ghost use Rattle.meaning.specs.Limits.{row_list_bytes};
 ghost use Rattle.meaning.specs.Number.{text_bytes};
 ghost use Rattle.order.specs.Rooms.{HalfRoom};
@@ -29,8 +30,8 @@ fn destination_size(rows: &[u8], p: usize) -> usize
 
 // Writes the destination of the row at a place with its length, and answers the place after it.
 fn put_destination(out: &mut [u8], to: usize, rows: &[u8], p: usize) -> usize
-    requires { (length rows.now ≤ row_list_bytes) × (to + length (text_bytes (destination_at rows.now p)) ≤ length out.old) }
-    ensures { (out.new ≡ splice out.old to (text_bytes (destination_at rows.now p))) × (result ≡ to + length (text_bytes (destination_at rows.now p))) }
+    requires { (length rows.now ≤ row_list_bytes) × RoomFor out.old to (text_bytes (destination_at rows.now p)) }
+    ensures { Puts out.old to (text_bytes (destination_at rows.now p)) out.new result }
 {
     let dst = destination_at(rows, p);
     put_text(out, to, rows, dst.at, dst.len)
@@ -48,8 +49,8 @@ fn listed_size(rows: &[u8], firsts: &[u32]) -> usize
 
 // Writes the destination of the rows at places and how many they are, and answers the place after them.
 fn put_head(out: &mut [u8], to: usize, rows: &[u8], firsts: &[u32]) -> usize
-    requires { (0 < length firsts.now) × (length rows.now ≤ row_list_bytes) × (length firsts.now ≤ row_list_bytes) × (to + length (head_at rows.now firsts.now) ≤ length out.old) }
-    ensures { (out.new ≡ splice out.old to (head_at rows.now firsts.now)) × (result ≡ to + length (head_at rows.now firsts.now)) }
+    requires { (0 < length firsts.now) × (length rows.now ≤ row_list_bytes) × (length firsts.now ≤ row_list_bytes) × RoomFor out.old to (head_at rows.now firsts.now) }
+    ensures { Puts out.old to (head_at rows.now firsts.now) out.new result }
 {
     let i = put_destination(out, to, rows, firsts[0] as usize);
     number::put(out, i, firsts.len())
@@ -57,8 +58,8 @@ fn put_head(out: &mut [u8], to: usize, rows: &[u8], firsts: &[u32]) -> usize
 
 // Writes a destination with the rows at places: itself, how many, and their sources. Answers the place after them.
 fn put_listed(out: &mut [u8], to: usize, rows: &[u8], firsts: &[u32]) -> usize
-    requires { (0 < length firsts.now) × (length rows.now ≤ row_list_bytes) × (length firsts.now ≤ row_list_bytes) × (to + length (listed_at rows.now firsts.now) ≤ length out.old) }
-    ensures { (out.new ≡ splice out.old to (listed_at rows.now firsts.now)) × (result ≡ to + length (listed_at rows.now firsts.now)) }
+    requires { (0 < length firsts.now) × (length rows.now ≤ row_list_bytes) × (length firsts.now ≤ row_list_bytes) × RoomFor out.old to (listed_at rows.now firsts.now) }
+    ensures { Puts out.old to (listed_at rows.now firsts.now) out.new result }
 {
     let i = put_head(out, to, rows, firsts);
     put_sources(out, i, rows, firsts)
@@ -71,10 +72,9 @@ fn pair_size(rows: &[u8], run: &[u32]) -> usize
 {
     let count = pair_firsts::<Source>(rows, run);
     if count < 2 {
-        0
-    } else {
-        listed_size(rows, &run[..count])
+        return 0;
     }
+    listed_size(rows, &run[..count])
 }
 
 // How many bytes the conflict of a run takes that has so many sources, which take so many bytes.
@@ -122,8 +122,8 @@ pub fn put_run(
     run: &mut [u32],
     scratch: &mut [u32],
 ) -> usize
-    requires { OneRun rows.now run.old × (0 < length run.old) × (length rows.now ≤ row_list_bytes) × (length run.old ≤ row_list_bytes) × HalfRoom run.old scratch.old × (to + length (run_bytes rows.now run.old) ≤ length out.old) }
-    ensures { (out.new ≡ splice out.old to (run_bytes rows.now run.old)) × (result ≡ to + length (run_bytes rows.now run.old)) }
+    requires { OneRun rows.now run.old × (0 < length run.old) × (length rows.now ≤ row_list_bytes) × (length run.old ≤ row_list_bytes) × HalfRoom run.old scratch.old × RoomFor out.old to (run_bytes rows.now run.old) }
+    ensures { Puts out.old to (run_bytes rows.now run.old) out.new result }
 {
     if run.len() < 2 {
         return to;

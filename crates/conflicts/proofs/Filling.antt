@@ -2,11 +2,11 @@
 use mathlib.Core.Path.{◌≡◌, refl, sym, ap, ◌∙◌}
 use mathlib.Core.Bool.{Bool, true, false, cond}
 use mathlib.Core.List.{List, [], ◌∷◌, ◌++◌}
-use Prim.Native.Nat.{ℕ, zero, suc, ◌+◌, ◌-◌, ◌*◌, ◌≤◌, ◌<◌}
+use Prim.Native.Nat.{ℕ, zero, suc, ◌+◌, ◌≤◌, ◌<◌}
 use native.Mathlib.Numerals.{add-one}
 use native.Mathlib.Omega.{arith}
 use lib.ListN.{length, take, drop, set, length-set, length-drop}
-use lib.Seq.{take-suc-set, length-take-le}
+use lib.Seq.{take-suc-set}
 use Rattle.meaning.specs.Bytes.{Text, keep, present}
 use Rattle.meaning.specs.Limits.{row_list_bytes}
 use Rattle.meaning.specs.Number.{took, need, give}
@@ -15,34 +15,20 @@ use Rattle.promises.proofs.Members.{step-took}
 use Rattle.parse.specs.declared.types.Side.{Side}
 use Rattle.parse.specs.declared.types.Side.TheVariants.{Absent, Part, Head}
 use Rattle.parse.specs.Places.{side_meant}
-use Rattle.list.specs.declared.cursor.Cursor.{Cursor}
+use Rattle.std.specs.Prelude.{Option, None, Some}
+use Rattle.list.specs.declared.cursor.Record.{Record}
 use Rattle.row_fields.specs.declared.RowPlace.{RowPlace}
-use Rattle.row_list.specs.declared.RowStep.{RowStep}
-use Rattle.row_list.specs.declared.RowStep.TheVariants.{Row, End, Refused}
 use Rattle.row_fields.specs.Fields.{row_meant}
-use Rattle.row_list.specs.Rows.{row_step_at, RowTaken, RowSays}
+use Rattle.row_list.specs.Rows.{RowTaken, RowHere}
 use Rattle.order.specs.Sorting.{Above, Increasing}
 use Rattle.keys.specs.Keys.{row_or, row_at}
 use Rattle.row_list.specs.Lists.{rows_in, RowsRead}
 use Rattle.conflicts.specs.ConflictBytes.{InList}
 use Rattle.conflict.specs.Shared.{rows_at}
 use Rattle.conflicts.specs.Indexed.{has_destination, Given, Indexed, Stored}
-use Rattle.conflicts.proofs.Walks.{At, at-start, next_row, next-destination, moves-on, end_row, refused-row, taken}
+use Rattle.conflicts.proofs.Walks.{At, at-start, next_row, next-destination, end_row, taken}
 
 -- a place as it is stored
-pub pushed : (d : List ℕ) (n at r : ℕ) → r ≡ at → set d n r ≡ set d n at
-pushed d n at r e = ap (set d n) e
-
--- a side by its case
-module _ (dst : Side) (w : InList row_list_bytes dst) (d : List ℕ) (n at : ℕ) where
-  pub store-absent : dst ≡ Absent → Stored d n at dst d n
-  store-absent e = rw e (refl, refl)
-
-  pub store-part : (a b : ℕ) → dst ≡ Part a b → (e : List ℕ) (r : ℕ) → e ≡ set d n at → r ≡ n + 1 → Stored d n at dst e r
-  store-part a b e f r h k = rw e (h, k)
-
-  pub store-head : dst ≡ Head → Stored d n at dst d n
-  store-head e = absurd (rw e at w)
 
 module _ (specs : ℕ) (s : Text) (at : ℕ) (row : RowPlace) (next : ℕ) (t : RowTaken specs s at row next) where
   -- the row that was taken is the one that begins there
@@ -125,32 +111,26 @@ pub filling-starts : (specs : ℕ) (s : Text) → RowsRead specs s → (d : List
 filling-starts specs s r d at e =
     record { passed = 0; here = at-start specs s r at e; some_left = omega arith; few = omega arith; same-long = refl; rows_are = refl; given = tt; ascends = tt; under = tt }
 
-module _ (specs : ℕ) (s : Text) (d₀ d : List ℕ) (at n : ℕ) (m : Filling specs s d₀ d at n) (w : RowStep) (stands : w ≡ row_step_at specs s at) (says : RowSays specs s at w) where
+module _ (specs : ℕ) (s : Text) (d₀ d : List ℕ) (at n : ℕ) (m : Filling specs s d₀ d at n) (w : Option (Record RowPlace)) (says : RowHere specs s at w) where
   whole : length (rows_in specs s) ≤ length d₀ → drop m.passed (rows_in specs s) ≡ [] → Indexed specs s (take n d) × (n ≤ length d₀)
   whole h e = (
     record { rows_are = m.rows_are ∙ ap (keep has_destination) (take_past (rows_in specs s) m.passed e); given = m.given; ascends = m.ascends },
     omega (arith, m.few, m.some_left),
   )
 
-  pub filling-done : length (rows_in specs s) ≤ length d₀ → w ≡ End → Indexed specs s (take n d)
-  filling-done h e = (whole h (end_row specs s at m.passed m.here w stands says e)).0
+  pub filling-done : length (rows_in specs s) ≤ length d₀ → w ≡ None → Indexed specs s (take n d)
+  filling-done h e = (whole h (end_row specs s at m.passed m.here w says e)).0
 
-  pub filling-few : length (rows_in specs s) ≤ length d₀ → w ≡ End → n ≤ length d₀
-  filling-few h e = (whole h (end_row specs s at m.passed m.here w stands says e)).1
+  pub filling-few : length (rows_in specs s) ≤ length d₀ → w ≡ None → n ≤ length d₀
+  filling-few h e = (whole h (end_row specs s at m.passed m.here w says e)).1
 
-  pub filling-refused : length (rows_in specs s) ≤ length d₀ → (k : ℕ) → w ≡ Refused k → Indexed specs s (take n d)
-  filling-refused h k e = (whole h (refused-row specs s at m.passed m.here w stands says k e)).0
-
-  pub filling-refused-few : length (rows_in specs s) ≤ length d₀ → (k : ℕ) → w ≡ Refused k → n ≤ length d₀
-  filling-refused-few h k e = (whole h (refused-row specs s at m.passed m.here w stands says k e)).1
-
-  module _ (row : RowPlace) (next : Cursor) (e : w ≡ Row row next) where
-    there : RowTaken specs s at row next.at
-    there = taken specs s at m.passed m.here w stands says row next e
+  module _ (r : Record RowPlace) (e : w ≡ Some r) where
+    there : RowTaken specs s at r.value r.next.at
+    there = taken specs s at m.passed m.here w says r e
 
     one_more : m.passed < length (rows_in specs s)
     one_more =
-        let q = next_row specs s at m.passed m.here w stands says row next e in
+        let q = next_row specs s at m.passed m.here w says r e in
         omega (arith, ap length q.is, length-drop m.passed (rows_in specs s))
 
     pub filling-room : length (rows_in specs s) ≤ length d₀ → n < length d
@@ -159,39 +139,36 @@ module _ (specs : ℕ) (s : Text) (d₀ d : List ℕ) (at n : ℕ) (m : Filling 
     pub filling-place : at ≤ row_list_bytes
     filling-place = omega (arith, there.here, m.here.short)
 
-    pub filling-side : InList row_list_bytes row.dst
-    filling-side = go row.dst (next-destination specs s at m.passed m.here w stands says row next e)
+    pub filling-side : InList row_list_bytes r.value.dst
+    filling-side = go r.value.dst (next-destination specs s at m.passed m.here w says r e)
       where
         go : (side : Side) → InList (length s) side → InList row_list_bytes side
         go Absent i = tt
         go (Part a b) i = omega (arith, m.here.short)
         go Head i = i
 
-    pub filling-on : length s - next.at < length s - at
-    filling-on = moves-on specs s at m.passed m.here w stands says row next e
-
-    more : take (suc m.passed) (rows_in specs s) ≡ take m.passed (rows_in specs s) ++ (row_meant s row ∷ [])
+    more : take (suc m.passed) (rows_in specs s) ≡ take m.passed (rows_in specs s) ++ (row_meant s r.value ∷ [])
     more =
-        let q = next_row specs s at m.passed m.here w stands says row next e in
-        take-suc (rows_in specs s) m.passed (row_meant s row) (drop (m.passed + 1) (rows_in specs s)) q.is
+        let q = next_row specs s at m.passed m.here w says r e in
+        take-suc (rows_in specs s) m.passed (row_meant s r.value) (drop (m.passed + 1) (rows_in specs s)) q.is
 
-    pub filling-more : length (rows_in specs s) ≤ length d₀ → (d' : List ℕ) (r : ℕ) → Stored d n at row.dst d' r → Filling specs s d₀ d' next.at r
+    pub filling-more : length (rows_in specs s) ≤ length d₀ → (d' : List ℕ) (k : ℕ) → Stored d n at r.value.dst d' k → Filling specs s d₀ d' r.next.at k
     unfolding row_meant
-    filling-more room d' r z = go row.dst refl z
+    filling-more room d' k z = go r.value.dst refl z
       where
         h : n < length d
         h = filling-room room
 
-        q : At specs s next.at (m.passed + 1)
-        q = (next_row specs s at m.passed m.here w stands says row next e).there
+        q : At specs s r.next.at (m.passed + 1)
+        q = (next_row specs s at m.passed m.here w says r e).there
 
-        kept : rows_at s (take n d) ++ cond (has_destination (row_meant s row)) (row_meant s row ∷ []) [] ≡ keep has_destination (take (m.passed + 1) (rows_in specs s))
-        kept = rw (add-one, more, keep-put has_destination (row_meant s row) (take m.passed (rows_in specs s)), m.rows_are)
+        kept : rows_at s (take n d) ++ cond (has_destination (row_meant s r.value)) (row_meant s r.value ∷ []) [] ≡ keep has_destination (take (m.passed + 1) (rows_in specs s))
+        kept = rw (add-one, more, keep-put has_destination (row_meant s r.value) (take m.passed (rows_in specs s)), m.rows_are)
 
         put-there : take (n + 1) (set d n at) ≡ take n d ++ (at ∷ [])
         put-there = rw add-one (take-suc-set d n at h)
 
-        go : (side : Side) → row.dst ≡ side → Stored d n at side d' r → Filling specs s d₀ d' next.at r
+        go : (side : Side) → r.value.dst ≡ side → Stored d n at side d' k → Filling specs s d₀ d' r.next.at k
         go Absent f z =
             rw (z.0, z.1)
             (record {
@@ -203,7 +180,7 @@ module _ (specs : ℕ) (s : Text) (d₀ d : List ℕ) (at n : ℕ) (m : Filling 
               rows_are = sym (append-none (rows_at s (take n d))) ∙ (rw f at kept);
               given = m.given;
               ascends = m.ascends;
-              under = under_more at next.at (take n d) (omega (arith, there.on)) m.under;
+              under = under_more at r.next.at (take n d) (omega (arith, there.on)) m.under;
             })
         go (Part a b) f z =
             rw (z.0, z.1)
@@ -213,20 +190,9 @@ module _ (specs : ℕ) (s : Text) (d₀ d : List ℕ) (at n : ℕ) (m : Filling 
               some_left = omega (arith, one_more);
               few = omega (arith, m.few);
               same-long = length-set d n at ∙ m.same-long;
-              rows_are = let g : present (side_meant s row.dst) ≡ true = rw f in rw (put-there, map-put s at (take n d), row-there specs s at row next.at there) (rw g at kept);
-              given = rw put-there (given-put s at (take n d) (rw (row-there specs s at row next.at there, f)) m.given);
+              rows_are = let g : present (side_meant s r.value.dst) ≡ true = rw f in rw (put-there, map-put s at (take n d), row-there specs s at r.value r.next.at there) (rw g at kept);
+              given = rw put-there (given-put s at (take n d) (rw (row-there specs s at r.value r.next.at there, f)) m.given);
               ascends = rw put-there (ascending-put at (take n d) m.under m.ascends);
-              under = rw put-there (under-put at next.at (take n d) there.on m.under);
+              under = rw put-there (under-put at r.next.at (take n d) there.on m.under);
             })
         go Head f z = absurd z
-
--- the part that was filled
-module _ (d₀ d : List ℕ) (n : ℕ) (few : n ≤ length d₀) (same : length d ≡ length d₀) where
-  pub filled-count : n ≡ length (take n d)
-  filled-count = sym (length-take-le n d (rw same few))
-
-  pub filled-small : length d₀ ≤ row_list_bytes → length (take n d) ≤ row_list_bytes
-  filled-small h = omega (arith, filled-count)
-
-  pub filled-room : (room : ℕ) → length d₀ ≤ 2 * room + 1 → length (take n d) ≤ 2 * room + 1
-  filled-room room h = omega (arith, filled-count)

@@ -7,7 +7,7 @@ use Prim.Native.Nat.{ℕ, suc, ◌*◌, ◌≤◌, ◌<◌}
 use native.Mathlib.Omega.{arith}
 use borrow.Author.Tests.{lt-ltb}
 use mir.Val.{Fits}
-use mir.Syntax.{w8, w64}
+use mir.Syntax.{w8}
 use lib.ListN.{length, get_or, length-append}
 use Rattle.meaning.specs.Bytes.{Text, every, each}
 use Rattle.meaning.specs.Number.{number_bytes, text_bytes}
@@ -64,9 +64,5 @@ most-rows : (specs : ℕ) (s : Text) → RowsRead specs s → ((i : ℕ) → Fit
 most-rows specs s r o = omega (arith, list-short specs s r, ap length (spelled specs s r o), rows_long (rows_in specs s))
 
 -- room for the rows of any list
-pub many-room : (specs : ℕ) (s : Text) → RowsRead specs s → ((i : ℕ) → Fits w8 (get_or s i 0)) → (d : List ℕ) → length d ≡ many_rows → length (rows_in specs s) ≤ length d
-many-room specs s r o d e = omega (arith, most-rows specs s r o)
-
--- a room that is too small can be made larger
-pub larger-fits : (specs : ℕ) (s : Text) → RowsRead specs s → ((i : ℕ) → Fits w8 (get_or s i 0)) → (count room : ℕ) → count ≡ length (rows_in specs s) → room < count → Fits w64 (16 * room)
-larger-fits specs s r o count room e l = omega (arith, most-rows specs s r o)
+pub many-room : (specs : ℕ) (s : Text) → RowsRead specs s → ((i : ℕ) → Fits w8 (get_or s i 0)) → length (rows_in specs s) ≤ many_rows
+many-room specs s r o = omega (arith, most-rows specs s r o)

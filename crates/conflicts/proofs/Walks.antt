@@ -1,30 +1,24 @@
 -- A walk over the rows of a list that was read. Assumes nothing.
-use mathlib.Core.Path.{◌≡◌, refl, sym, ap, ◌∙◌, subst}
-use mathlib.Core.Bool.{Bool, true, false, cond}
+use mathlib.Core.Path.{◌≡◌, refl, ap, ◌∙◌, subst}
 use mathlib.Core.List.{List, [], ◌∷◌}
-use mathlib.Core.Option.{Option, none, some}
-use Prim.Native.Nat.{ℕ, suc, ◌+◌, ◌-◌, ◌≤◌, ◌<◌}
-use native.Mathlib.Omega.{arith}
+use Prim.Native.Nat.{ℕ, suc, ◌+◌, ◌≤◌}
 use native.Mathlib.Numerals.{add-one}
-use lib.Dec.{ltb}
 use lib.ListN.{length, drop}
 use Rattle.meaning.specs.Bytes.{Text}
 use Rattle.meaning.specs.Limits.{row_list_bytes}
 use Rattle.meaning.specs.Spec.{accepted}
-use Rattle.meaning.specs.Number.{Step, took, no}
 use Rattle.meaning.specs.Rows as meaning
 use Rattle.parse.specs.declared.types.Side.{Side}
 use Rattle.parse.specs.declared.types.Side.TheVariants.{Absent, Part, Head}
 use Rattle.parse.specs.Places.{Within}
 use Rattle.list.proofs.Standing.{drop-rest}
-use Rattle.list.specs.declared.cursor.Cursor.{Cursor}
+use Rattle.std.specs.Prelude.{Option, None, Some}
+use Rattle.list.specs.declared.cursor.Record.{Record}
 use Rattle.row_fields.specs.declared.RowPlace.{RowPlace}
-use Rattle.row_list.specs.declared.RowStep.{RowStep}
-use Rattle.row_list.specs.declared.RowStep.TheVariants.{Row, End, Refused}
-use Rattle.row_fields.specs.Fields.{row_meant, row_place, destination_place}
-use Rattle.row_list.specs.Rows.{placed_row, row_step_at, RowTaken, RowSays}
+use Rattle.row_fields.specs.Fields.{row_meant}
+use Rattle.row_list.specs.Rows.{RowTaken, RowHere}
 use Rattle.list.proofs.Records.{accepted-within}
-use Rattle.row_list.proofs.RowWalks.{RowsLeft, rows_left, rows_next, rows_end, rows-refused}
+use Rattle.row_list.proofs.RowWalks.{RowsLeft, rows_left, rows_next, rows_end, never-head}
 use Rattle.row_list.specs.Lists.{rows_in, RowsRead}
 use Rattle.conflicts.specs.ConflictBytes.{InList}
 
@@ -49,56 +43,28 @@ pub record Next (specs : ℕ) (s : Text) (row : RowPlace) (next j : ℕ) : Type 
   pub is : drop j (rows_in specs s) ≡ row_meant s row ∷ drop (j + 1) (rows_in specs s)
   pub there : At specs s next (j + 1)
 
--- no row's destination is the supplied `HEAD`
-placed-not-head : (end : ℕ) (o : Option Text) → destination_place end o ≡ Head → ⊥
-placed-not-head end none e = let z : ◌≡◌ {A = ℕ} 0 1 = cc in omega arith
-placed-not-head end (some t) e = let z : ◌≡◌ {A = ℕ} 0 1 = cc in omega arith
-
-row_is : (s : Text) (st : Step meaning.Row) (row : RowPlace) (next : Cursor) → Row row next ≡ placed_row s st → row.dst ≡ Head → ⊥
-unfolding row_place
-row_is s (took r rest) row next e h =
-    let q : row ≡ row_place (length s - length rest) r = cc in
-    placed-not-head (length s - length rest) r.destination (sym (ap (λ (p : RowPlace). p.dst) q) ∙ h)
-row_is s (no n) row next e h = let z : ◌≡◌ {A = ℕ} 0 1 = cc in omega arith
-
-stands-not-head : (specs : ℕ) (s : Text) (at : ℕ) (row : RowPlace) (next : Cursor) → Row row next ≡ row_step_at specs s at → row.dst ≡ Head → ⊥
-unfolding row_step_at
-stands-not-head specs s at row next e h = go (ltb at (length s)) e
-  where
-    go : (b : Bool) → Row row next ≡ cond b (placed_row s (meaning.row_record specs 0 (drop at s))) End → ⊥
-    go true f = row_is s (meaning.row_record specs 0 (drop at s)) row next f h
-    go false f = let z : ◌≡◌ {A = ℕ} 0 1 = cc in omega arith
-
 within-list : (len : ℕ) (side : Side) → Within len side → (side ≡ Head → ⊥) → InList len side
 within-list len Absent w h = tt
 within-list len (Part at n) w h = w
 within-list len Head w h = h refl
 
-module _ (specs : ℕ) (s : Text) (at j : ℕ) (a : At specs s at j) (w : RowStep) (stands : w ≡ row_step_at specs s at) (says : RowSays specs s at w) where
-  module _ (row : RowPlace) (next : Cursor) (e : w ≡ Row row next) where
-    pub taken : RowTaken specs s at row next.at
+module _ (specs : ℕ) (s : Text) (at j : ℕ) (a : At specs s at j) (w : Option (Record RowPlace)) (says : RowHere specs s at w) where
+  module _ (r : Record RowPlace) (e : w ≡ Some r) where
+    pub taken : RowTaken specs s at r.value r.next.at
     taken = rw e at says
 
-    pub next_row : Next specs s row next.at j
+    pub next_row : Next specs s r.value r.next.at j
     next_row =
-        let n = rows_next specs s at j (drop j (rows_in specs s)) a.left w says row next e in
-        let d = drop-rest (rows_in specs s) j (row_meant s row) n.after n.is in
+        let n = rows_next specs s at j (drop j (rows_in specs s)) a.left w says r e in
+        let d = drop-rest (rows_in specs s) j (row_meant s r.value) n.after n.is in
         record {
-          is = rw (add-one j) (n.is ∙ ap (λ (l : List meaning.Row). row_meant s row ∷ l) d);
-          there = record { left = rw (add-one j) (subst (RowsLeft specs s next.at (suc j)) d n.left); short = a.short };
+          is = rw (add-one j) (n.is ∙ ap (λ (l : List meaning.Row). row_meant s r.value ∷ l) d);
+          there = record { left = rw (add-one j) (subst (RowsLeft specs s r.next.at (suc j)) d n.left); short = a.short };
         }
 
-    pub next-destination : InList (length s) row.dst
-    next-destination = within-list (length s) row.dst taken.dst-within (stands-not-head specs s at row next (sym e ∙ stands))
+    pub next-destination : InList (length s) r.value.dst
+    next-destination = within-list (length s) r.value.dst taken.dst-within (never-head specs s at r.value r.next.at taken)
 
-    -- the cursor moves on
-    pub moves-on : length s - next.at < length s - at
-    moves-on = omega (arith, taken.on, taken.within)
-
-  -- at the end no row is left
-  pub end_row : w ≡ End → drop j (rows_in specs s) ≡ []
+  -- at the end no r.value is left
+  pub end_row : w ≡ None → drop j (rows_in specs s) ≡ []
   end_row e = rows_end specs s at j (drop j (rows_in specs s)) a.left w says e
-
-  -- no row of the list is refused
-  pub refused-row : (n : ℕ) → w ≡ Refused n → drop j (rows_in specs s) ≡ []
-  refused-row n e = rows-refused specs s at j (drop j (rows_in specs s)) a.left w says n e

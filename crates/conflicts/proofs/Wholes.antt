@@ -7,8 +7,6 @@ use mathlib.Core.Option.{Option, none, some}
 use Prim.Native.Nat.{ℕ, zero, suc, ◌+◌, ◌-◌, ◌*◌, ◌≤◌, ◌<◌}
 use native.Mathlib.Omega.{arith}
 use borrow.Author.Tests.{le-leb, lt-leb}
-use mir.Val.{Fits}
-use mir.Syntax.{w64}
 use borrow.Rule.Slice.PartMut.{put_mid, mid_len, put_same, drop_put, same_len_mid}
 use lib.ListN.{length, get_or, take, drop, length-append}
 use lib.Seq.{drop-drop}
@@ -252,13 +250,7 @@ pub walking-starts : (specs : ℕ) (s : Text) (d : List ℕ) → SortedIndex spe
 walking-starts specs s d x = record { at = here-starts specs s d x; as-was = refl; same-long = refl; measured = omega (arith, ap length (walk-whole specs s d x)); small = omega arith }
 
 module _ (specs : ℕ) (s : Text) (d₀ d : List ℕ) (i size : ℕ) (m : Walking specs s d₀ d i size) where
-  pub walking-done : length d ≤ i → size ≡ length (conflicts_bytes (rows_in specs s))
-  walking-done h = omega (arith, m.measured, ap (λ (l : List ℕ). length (walk s l)) (rest_end d i h))
-
   module _ (some : i < length d) (end : ℕ) (run : end ≡ i + run_of (same_at destination_key s (get_or d i 0)) (drop i d)) (begun : i < end) (room : end ≤ length d) (n : ℕ) (few : n ≤ length (take (end - i) (drop i d)) * conflict_row_most) where
-    pub walking-fits : length d₀ ≤ row_list_bytes → Fits w64 (size + n)
-    walking-fits h = omega (arith, m.small, m.same-long, mid_len i end d room)
-
     pub walking-more : n ≡ length (run_bytes s (take (end - i) (drop i d))) → (ys : List ℕ) → ys ≡ take (end - i) (drop i d) → Walking specs s d₀ (put_mid i (end - i) d ys) end (size + n)
     walking-more e ys kept =
         let same : length ys ≡ length (take (end - i) (drop i d)) = ap length kept in
@@ -304,8 +296,6 @@ module _ (specs : ℕ) (s : Text) (d₀ d : List ℕ) (i : ℕ) (buffer out : Te
         }
 
 -- `put_if_room`: the conflicts of a sorted index, measured and then written
-pub index-again : (specs : ℕ) (s : Text) (d e : List ℕ) → e ≡ d → SortedIndex specs s d → SortedIndex specs s e
-index-again specs s d e q x = rw q x
 
 module _ (rows : List Row) (size : ℕ) (es : size ≡ length (conflicts_bytes rows)) (d : Text) where
   pub none-put : size ≡ 0 → d ≡ put_if_room d (conflicts_bytes rows)

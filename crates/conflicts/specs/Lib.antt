@@ -1,5 +1,5 @@
 -- `ConflictBytes`: the bytes of conflicts in a buffer, and where a destination stands. `Indexed`: places of rows that have a destination.
--- `Rooms`: how many rows an index has room for.
+-- `Rooms`: how many rows the largest index has room for.
 pub mod ConflictBytes
 pub mod Indexed
 pub mod Rooms

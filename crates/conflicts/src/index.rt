@@ -1,5 +1,7 @@
 // The index of a row list: the places of its rows that have a destination, sorted by it, so that rows of one destination are a run.
-ghost use Rattle.std.specs.Prelude.{◌≡◌, ◌+◌, ◌*◌, ◌≤◌, ◌<◌, length, take, set};
+// As it is: (a) there is no heap, so an index and the scratch of its sort are lent; the index is cut and the scratch lent whole, so that a
+// struct of both would be taken apart at each call.
+ghost use Rattle.std.specs.Prelude.{◌≡◌, ◌+◌, ◌≤◌, ◌<◌, length, take};
 ghost use Rattle.meaning.specs.Limits.{row_list_bytes};
 ghost use Rattle.buffer.specs.Splice.{splice};
 ghost use Rattle.order.specs.Rooms.{HalfRoom};
@@ -13,24 +15,7 @@ use list::cursor::Cursor;
 use order::run::run_end;
 use order::sort::sort;
 use parse::types::Side;
-use row_list::{RowStep, next_row};
-
-// A place of a row list as it stands in an index.
-fn narrow(at: usize) -> u32
-    requires { at ≤ row_list_bytes }
-    ensures { result ≡ at }
-{
-    at as u32
-}
-
-// Stores a place after n others, and answers how many there are.
-fn push(index: &mut [u32], n: usize, at: usize) -> usize
-    requires { (n < length index.old) × (at ≤ row_list_bytes) }
-    ensures { (index.new ≡ set index.old n at) × (result ≡ n + 1) }
-{
-    index[n] = narrow(at);
-    n + 1
-}
+use row_list::row_at;
 
 // Stores the place of a row after n others, if the row has a destination, and answers how many there are.
 fn store(index: &mut [u32], n: usize, at: usize, dst: Side) -> usize
@@ -38,38 +23,31 @@ fn store(index: &mut [u32], n: usize, at: usize, dst: Side) -> usize
     ensures { Stored index.old n at dst index.new result }
 {
     match dst {
-        Side::Absent => n,
-        Side::Part(_, _) => push(index, n, at),
-        Side::Head => n,
+        Side::Part(_, _) => {
+            index[n] = at as u32;
+            n + 1
+        }
+        Side::Absent | Side::Head => n,
     }
 }
 
 // Stores the places of all rows that have a destination, and answers how many there are.
+// As it is: (d) a walk by the cursor, for the reason given at `row_list::each_row`.
 fn fill(rows: &[u8], specs: usize, index: &mut [u32]) -> usize
     requires { RowsRead specs rows.now × (length (rows_in specs rows.now) ≤ length index.old) }
     ensures { Indexed specs rows.now (take result index.new) × (result ≤ length index.old) }
 {
     let mut n = 0;
     let mut c = Cursor::new();
-    loop {
-        let at = c.at;
-        match next_row(c, rows, specs) {
-            RowStep::Row { row, next } => {
-                let dst = row.dst;
-                n = store(index, n, at, dst);
-                c = next;
-            }
-            RowStep::End => {
-                return n;
-            }
-            RowStep::Refused(_) => {
-                return n;
-            }
-        }
+    while let Some(r) = row_at(c, rows, specs) {
+        n = store(index, n, c.at, r.value.dst);
+        c = r.next;
     }
+    n
 }
 
 // How many bytes the conflicts of a sorted index take, run by run. The index is left as it was.
+// As it is: (d) `chunk_by_mut` cuts where neighbours differ and reads no fewer keys, and that its runs make the index again has to be shown.
 fn sorted_size(rows: &[u8], specs: usize, index: &mut [u32], scratch: &mut [u32]) -> usize
     requires { RowsRead specs rows.now × SortedIndex specs rows.now index.old × (length index.old ≤ row_list_bytes) × HalfRoom index.old scratch.old }
     ensures { (result ≡ length (conflicts_bytes (rows_in specs rows.now))) × (index.new ≡ index.old) }
@@ -85,6 +63,7 @@ fn sorted_size(rows: &[u8], specs: usize, index: &mut [u32], scratch: &mut [u32]
 }
 
 // Writes the conflicts of a sorted index at the start of a buffer, run by run.
+// As it is: (d) as for `sorted_size`.
 fn put_sorted(out: &mut [u8], rows: &[u8], specs: usize, index: &mut [u32], scratch: &mut [u32])
     requires { RowsRead specs rows.now × SortedIndex specs rows.now index.old × (length index.old ≤ row_list_bytes) × HalfRoom index.old scratch.old × (length (conflicts_bytes (rows_in specs rows.now)) ≤ length out.old) }
     ensures { out.new ≡ splice out.old 0 (conflicts_bytes (rows_in specs rows.now)) }
@@ -110,29 +89,10 @@ fn put_if_room(
     ensures { (result ≡ length (conflicts_bytes (rows_in specs rows.now))) × (out.new ≡ put_if_room out.old (conflicts_bytes (rows_in specs rows.now))) }
 {
     let size = sorted_size(rows, specs, index, scratch);
-    if size == 0 {
-        return 0;
+    if 0 < size && size <= out.len() {
+        put_sorted(out, rows, specs, index, scratch);
     }
-    if out.len() < size {
-        return size;
-    }
-    put_sorted(out, rows, specs, index, scratch);
     size
-}
-
-// Sorts the places of a row list, which serve to measure its conflicts and to write them.
-fn put_filled(
-    out: &mut [u8],
-    rows: &[u8],
-    specs: usize,
-    index: &mut [u32],
-    scratch: &mut [u32],
-) -> usize
-    requires { RowsRead specs rows.now × Indexed specs rows.now index.old × (length index.old ≤ row_list_bytes) × HalfRoom index.old scratch.old }
-    ensures { (result ≡ length (conflicts_bytes (rows_in specs rows.now))) × (out.new ≡ put_if_room out.old (conflicts_bytes (rows_in specs rows.now))) }
-{
-    sort::<Destination>(rows, index, scratch);
-    put_if_room(out, rows, specs, index, scratch)
 }
 
 // The conflicts of a row list, whose places an index has room for, at the start of a buffer that has room for them.
@@ -147,5 +107,7 @@ pub(crate) fn put_indexed(
     ensures { (result ≡ length (conflicts_bytes (rows_in specs rows.now))) × (out.new ≡ put_if_room out.old (conflicts_bytes (rows_in specs rows.now))) }
 {
     let n = fill(rows, specs, index);
-    put_filled(out, rows, specs, &mut index[..n], scratch)
+    let index = &mut index[..n];
+    sort::<Destination>(rows, index, scratch);
+    put_if_room(out, rows, specs, index, scratch)
 }

@@ -12,14 +12,13 @@ use Rattle.meaning.specs.Rows as meaning
 use Rattle.meaning.specs.Deliveries.{row_line}
 use Rattle.buffer.specs.Splice.{splice}
 use Rattle.buffer.proofs.Writing.{Writing, writing-starts, writing-room, writing_more, written-place, written-whole}
-use Rattle.list.specs.declared.cursor.Cursor.{Cursor}
+use Rattle.std.specs.Prelude.{Option, None, Some}
+use Rattle.list.specs.declared.cursor.Record.{Record}
 use Rattle.print.specs.Lines.{line_most}
 use Rattle.row_fields.specs.declared.RowPlace.{RowPlace}
-use Rattle.row_list.specs.declared.RowStep.{RowStep}
-use Rattle.row_list.specs.declared.RowStep.TheVariants.{Row, End, Refused}
 use Rattle.row_fields.specs.Fields.{row_meant}
-use Rattle.row_list.specs.Rows.{RowTaken, RowSays}
-use Rattle.row_list.proofs.RowWalks.{RowsLeft, rows_left, rows_next, rows_end, rows-refused}
+use Rattle.row_list.specs.Rows.{RowTaken, RowHere}
+use Rattle.row_list.proofs.RowWalks.{RowsLeft, rows_left, rows_next, rows_end}
 use Rattle.deliver.specs.Printed.{fetch_rows_in, row_lines, Listed, RowStands}
 
 -- all rows of a list are left at its start
@@ -36,9 +35,9 @@ unfolding row_lines
 lines_none = refl
 
 -- a row that the cursor answers stands within the list
-pub row-stands : (list : Text) → Listed list → (at : ℕ) (w : RowStep) → RowSays spec_count list at w → (row : RowPlace) (next : Cursor) → w ≡ Row row next → RowStands list row
-row-stands list l at w says row next e =
-    let t : RowTaken spec_count list at row next.at = rw e at says in
+pub row-stands : (list : Text) → Listed list → (at : ℕ) (w : Option (Record RowPlace)) → RowHere spec_count list at w → (r : Record RowPlace) → w ≡ Some r → RowStands list r.value
+row-stands list l at w says r e =
+    let t : RowTaken spec_count list at r.value r.next.at = rw e at says in
     record { short = l.short; src-within = t.src-within; dst-within = t.dst-within }
 
 -- the lines are measured as far as a place
@@ -61,25 +60,21 @@ module _ (list : Text) (l : Listed list) (at size : ℕ) (m : Measured list at s
   pub measured-fits : (n : ℕ) → n ≤ line_most → Fits w64 (size + n)
   measured-fits n h = omega (arith, measured-small)
 
-module _ (list : Text) (at size : ℕ) (m : Measured list at size) (w : RowStep) (says : RowSays spec_count list at w) where
+module _ (list : Text) (at size : ℕ) (m : Measured list at size) (w : Option (Record RowPlace)) (says : RowHere spec_count list at w) where
   -- one line more
-  pub measured-more : (row : RowPlace) (next : Cursor) → w ≡ Row row next → (n : ℕ) → n ≡ length (row_line (row_meant list row)) → n ≤ line_most → Measured list next.at (size + n)
-  measured-more row next e n f h =
-      let t : RowTaken spec_count list at row next.at = rw e at says in
-      let x = rows_next spec_count list at m.number m.rest m.left w says row next e in
-      let g : length (row_lines m.rest) ≡ n + length (row_lines x.after) = ap (λ (k : List meaning.Row). length (row_lines k)) x.is ∙ ap length (lines_next (row_meant list row) x.after) ∙ length-append (row_line (row_meant list row)) (row_lines x.after) ∙ ap (λ (k : ℕ). k + length (row_lines x.after)) (sym f) in
+  pub measured-more : (r : Record RowPlace) → w ≡ Some r → (n : ℕ) → n ≡ length (row_line (row_meant list r.value)) → n ≤ line_most → Measured list r.next.at (size + n)
+  measured-more r e n f h =
+      let t : RowTaken spec_count list at r.value r.next.at = rw e at says in
+      let x = rows_next spec_count list at m.number m.rest m.left w says r e in
+      let g : length (row_lines m.rest) ≡ n + length (row_lines x.after) = ap (λ (k : List meaning.Row). length (row_lines k)) x.is ∙ ap length (lines_next (row_meant list r.value) x.after) ∙ length-append (row_line (row_meant list r.value)) (row_lines x.after) ∙ ap (λ (k : ℕ). k + length (row_lines x.after)) (sym f) in
       record { number = _; rest = x.after; left = x.left; small = omega (arith, m.small, t.on); whole = omega (arith, m.whole) }
 
   -- at the end all are measured
-  pub measured-whole : w ≡ End → size ≡ length (row_lines (fetch_rows_in list))
+  pub measured-whole : w ≡ None → size ≡ length (row_lines (fetch_rows_in list))
   measured-whole e =
       let x = rows_end spec_count list at m.number m.rest m.left w says e in
       let z : length (row_lines m.rest) ≡ 0 = ap (λ (k : List meaning.Row). length (row_lines k)) x ∙ ap length lines_none in
       omega (arith, m.whole)
-
-  -- no row is refused
-  pub measured-never : (n : ℕ) → w ≡ Refused n → size ≡ length (row_lines (fetch_rows_in list))
-  measured-never n e = rows-refused spec_count list at m.number m.rest m.left w says n e
 
 -- the lines are written as far as a place
 pub record WrittenRows (d : Text) (from : ℕ) (list : Text) (at : ℕ) (out : Text) (i : ℕ) : Type 0 where
@@ -92,37 +87,30 @@ pub record WrittenRows (d : Text) (from : ℕ) (list : Text) (at : ℕ) (out : T
 pub written-starts : (d : Text) (from : ℕ) (list : Text) → Listed list → from + length (row_lines (fetch_rows_in list)) ≤ length d → (at : ℕ) → at ≡ 0 → WrittenRows d from list at d from
 written-starts d from list l h at e = record { number = 0; rest = fetch_rows_in list; left = all_left list l at e; writing = writing-starts d from (row_lines (fetch_rows_in list)) h }
 
-module _ (d : Text) (from : ℕ) (list : Text) (at : ℕ) (out : Text) (i : ℕ) (m : WrittenRows d from list at out i) (w : RowStep) (says : RowSays spec_count list at w) where
+module _ (d : Text) (from : ℕ) (list : Text) (at : ℕ) (out : Text) (i : ℕ) (m : WrittenRows d from list at out i) (w : Option (Record RowPlace)) (says : RowHere spec_count list at w) where
   -- a row and those after it
-  module _ (row : RowPlace) (next : Cursor) (e : w ≡ Row row next) where
-    pieces : (after : List meaning.Row) → m.rest ≡ row_meant list row ∷ after → row_lines m.rest ≡ row_line (row_meant list row) ++ row_lines after
-    pieces after f = ap row_lines f ∙ lines_next (row_meant list row) after
+  module _ (r : Record RowPlace) (e : w ≡ Some r) where
+    pieces : (after : List meaning.Row) → m.rest ≡ row_meant list r.value ∷ after → row_lines m.rest ≡ row_line (row_meant list r.value) ++ row_lines after
+    pieces after f = ap row_lines f ∙ lines_next (row_meant list r.value) after
 
     -- its line has room
-    pub written-room : i + length (row_line (row_meant list row)) ≤ length out
+    pub written-room : i + length (row_line (row_meant list r.value)) ≤ length out
     written-room =
-        let x = rows_next spec_count list at m.number m.rest m.left w says row next e in
-        writing-room d from (row_lines (fetch_rows_in list)) out i (row_lines m.rest) m.writing (row_line (row_meant list row)) (row_lines x.after) (pieces x.after x.is)
+        let x = rows_next spec_count list at m.number m.rest m.left w says r e in
+        writing-room d from (row_lines (fetch_rows_in list)) out i (row_lines m.rest) m.writing (row_line (row_meant list r.value)) (row_lines x.after) (pieces x.after x.is)
 
     -- one line more
-    pub written-more : (o : Text) (j : ℕ) → o ≡ splice out i (row_line (row_meant list row)) → j ≡ i + length (row_line (row_meant list row)) → WrittenRows d from list next.at o j
+    pub written-more : (o : Text) (j : ℕ) → o ≡ splice out i (row_line (row_meant list r.value)) → j ≡ i + length (row_line (row_meant list r.value)) → WrittenRows d from list r.next.at o j
     written-more o j p q =
-        let x = rows_next spec_count list at m.number m.rest m.left w says row next e in
-        record { number = _; rest = x.after; left = x.left; writing = writing_more d from (row_lines (fetch_rows_in list)) out i (row_lines m.rest) m.writing (row_line (row_meant list row)) (row_lines x.after) (pieces x.after x.is) o j p q }
+        let x = rows_next spec_count list at m.number m.rest m.left w says r e in
+        record { number = _; rest = x.after; left = x.left; writing = writing_more d from (row_lines (fetch_rows_in list)) out i (row_lines m.rest) m.writing (row_line (row_meant list r.value)) (row_lines x.after) (pieces x.after x.is) o j p q }
 
   -- at the end all are written
-  nothing : w ≡ End → row_lines m.rest ≡ []
+  nothing : w ≡ None → row_lines m.rest ≡ []
   nothing e = ap row_lines (rows_end spec_count list at m.number m.rest m.left w says e) ∙ lines_none
 
-  pub written-put : w ≡ End → out ≡ splice d from (row_lines (fetch_rows_in list))
+  pub written-put : w ≡ None → out ≡ splice d from (row_lines (fetch_rows_in list))
   written-put e = written-whole d from (row_lines (fetch_rows_in list)) out i (row_lines m.rest) m.writing (nothing e)
 
-  pub written-ends : w ≡ End → i ≡ from + length (row_lines (fetch_rows_in list))
+  pub written-ends : w ≡ None → i ≡ from + length (row_lines (fetch_rows_in list))
   written-ends e = written-place d from (row_lines (fetch_rows_in list)) out i (row_lines m.rest) m.writing (nothing e)
-
-  -- no row is refused
-  pub never-put : (n : ℕ) → w ≡ Refused n → out ≡ splice d from (row_lines (fetch_rows_in list))
-  never-put n e = rows-refused spec_count list at m.number m.rest m.left w says n e
-
-  pub never_ends : (n : ℕ) → w ≡ Refused n → i ≡ from + length (row_lines (fetch_rows_in list))
-  never_ends n e = rows-refused spec_count list at m.number m.rest m.left w says n e

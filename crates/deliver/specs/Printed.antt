@@ -3,11 +3,15 @@ use Rattle.std.specs.Prelude.{ℕ, ◌+◌, ◌≤◌, ◌≡◌, List, ◌++◌
 use Rattle.meaning.specs.Bytes.{Text, each}
 use Rattle.meaning.specs.Limits.{spec_count, program_bytes}
 use Rattle.meaning.specs.Spec.{accepted}
-use Rattle.meaning.specs.Rows.{Row, read_rows}
+use Rattle.meaning.specs.Rows as rows
+use Rattle.meaning.specs.Rows.{read_rows}
 use Rattle.meaning.specs.Deliveries.{row_line, header, within_limit, output}
 use Rattle.buffer.specs.Splice.{splice}
 use Rattle.parse.specs.Places.{Within}
 use Rattle.row_fields.specs.declared.RowPlace.{RowPlace}
+use Rattle.print.specs.declared.line.Row.{Row}
+use Rattle.print.specs.Lines.{lent_size, row_meant}
+use Rattle.row_fields.specs.Fields as fields
 use Rattle.row_list.specs.Lists.{rows_in}
 
 -- the buffers that the program lends: one for the rows, one for the printed text
@@ -21,11 +25,11 @@ pub record Prints (text entry exit : Text) (r : ℕ) : Type 0 where
   pub size_is : r ≡ length text
 
 -- the rows of a row list, under as many specs as a group can have
-unfoldable pub fetch_rows_in : Text → List Row
+unfoldable pub fetch_rows_in : Text → List rows.Row
 fetch_rows_in = rows_in spec_count
 
 -- a line for each row
-unfoldable pub row_lines : List Row → Text
+unfoldable pub row_lines : List rows.Row → Text
 row_lines rows = each rows row_line
 
 -- what is printed for a row list: the header and a line for each row, or 17
@@ -40,5 +44,11 @@ pub record Listed (list : Text) : Type 0 where
 -- the texts of a row stand within such a list
 pub record RowStands (list : Text) (row : RowPlace) : Type 0 where
   pub short : length list ≤ program_bytes
-  pub src-within : row.src_at + row.src_len ≤ length list
+  pub src-within : row.src.at + row.src.len ≤ length list
   pub dst-within : Within (length list) row.dst
+
+-- a row of places as it is printed, with texts no longer than the list
+pub record RowShown (list : Text) (row : RowPlace) (r : Row) : Type 0 where
+  pub meant : row_meant r ≡ fields.row_meant list row
+  pub source-short : length r.source.now ≤ program_bytes
+  pub destination-short : lent_size r.destination ≤ program_bytes

@@ -1,14 +1,14 @@
 -- A yield as a prefix list: its length, writing it, and the answer that tells of it. Assumes nothing.
-use Prim.Native.Nat.{ℕ, ◌+◌, ◌-◌, ◌≤◌}
+use Prim.Native.Nat.{ℕ, ◌+◌, ◌≤◌}
 use native.Mathlib.Omega.{arith}
 use mathlib.Core.Path.{◌≡◌, sym, ap, ◌∙◌}
 use mathlib.Core.List.{[], ◌∷◌, append-nil}
 use mathlib.Core.Option.{some}
-use lib.ListN.{length, take, drop}
-use Rattle.meaning.specs.Bytes.{Text, ◌and◌}
+use lib.ListN.{length}
+use Rattle.meaning.specs.Bytes.{Text}
 use Rattle.meaning.specs.Spec.{accepted}
 use Rattle.meaning.specs.Number.{number_bytes, text_bytes, record_bytes}
-use Rattle.meaning.specs.Prefix.{candidates, yielded, expand_prefixes}
+use Rattle.meaning.specs.Prefix.{yielded, expand_prefixes}
 use Rattle.meaning.specs.Buffers.{MeetsOne}
 use Rattle.meaning.specs.Entries.{expanded}
 use Rattle.buffer.specs.declared.written.Written.{Written}
@@ -21,10 +21,9 @@ use Rattle.parse.specs.declared.types.RefSpec.{RefSpec}
 use Rattle.std.specs.Prelude.{Result, Ok, Err}
 use Rattle.refusal.specs.declared.Refusal.{Refusal}
 use Rattle.refusal.specs.Numbers.{number_of}
-use Rattle.parse.specs.Places.{part_at, side_meant, Within, SidesWithin, spec_meant, parsed}
-use Rattle.parse.proofs.Parts.{part_of}
+use Rattle.parse.specs.Places.{side_meant, Within, SidesWithin, spec_meant, parsed}
 use Rattle.expand.specs.declared.Yield.{Yield}
-use Rattle.expand.specs.declared.Yield.TheVariants.{Nothing, One, Six}
+use Rattle.expand.specs.declared.Yield.TheVariants.{Nothing, One}
 use Rattle.refspec.specs.Instructions.{side_text}
 use Rattle.refspec.specs.Prefixes.{remote_place}
 use Rattle.expand.specs.Yields.{yield_place, yield_meant, YieldWithin}
@@ -55,15 +54,6 @@ module _ (t : Text) (y : Yield) where
     pub size-one : (r : ℕ) → r ≡ length (text_bytes (side_text t side)) → r ≡ length (record_bytes (yield_meant t y))
     size-one r h = rw (is, one-record (side_text t side)) h
 
-  module _ (at n : ℕ) (is : y ≡ Six at n) where
-    -- the candidates' name stands within the spec
-    pub six-within : (len : ℕ) → YieldWithin len y → at + n ≤ len
-    six-within len w = rw is at w
-
-    -- and they take what they take
-    pub size-six : (r : ℕ) → r ≡ length (record_bytes (candidates (part_at t at n))) → r ≡ length (record_bytes (yield_meant t y))
-    size-six r h = rw is h
-
   -- ---- writing it
 
   module _ (d : Text) where
@@ -80,15 +70,6 @@ module _ (t : Text) (y : Yield) where
       -- and is the list
       pub put_one : (o : Text) → o ≡ splice d 0 (text_bytes (side_text t side)) → o ≡ splice d 0 (record_bytes (yield_meant t y))
       put_one o h = rw (is, one-record (side_text t side)) h
-
-    module _ (at n : ℕ) (is : y ≡ Six at n) where
-      -- the candidates have room
-      pub six-room : length (record_bytes (yield_meant t y)) ≤ length d → length (record_bytes (candidates (part_at t at n))) ≤ length d
-      six-room h = rw is at h
-
-      -- and are the list
-      pub put-six-is : (o : Text) → o ≡ splice d 0 (record_bytes (candidates (part_at t at n))) → o ≡ splice d 0 (record_bytes (yield_meant t y))
-      put-six-is o h = rw is h
 
 -- a side as a record at the start
 module _ (t : Text) (side : Side) (n : ℕ) (en : n ≡ length (side_text t side)) (d : Text) (fits : length (text_bytes (side_text t side)) ≤ length d) where
@@ -108,20 +89,6 @@ module _ (t : Text) (side : Side) (n : ℕ) (en : n ≡ length (side_text t side
     -- and both are the record
     pub record-put : (o₂ : Text) (j : ℕ) → o₂ ≡ splice o i (side_text t side) → j ≡ i + length (side_text t side) → o₂ ≡ splice d 0 (text_bytes (side_text t side))
     record-put o₂ j e f = text-put (side_text t side) n en d 0 from_start o i eo ei o₂ j e f
-
--- the candidates of `&t[at..at + n]`
-module _ (t : Text) (at n : ℕ) where
-  -- their length
-  pub six-length : (r : ℕ) → r ≡ length (record_bytes (candidates (take (at + n - at) (drop at t)))) → r ≡ length (record_bytes (candidates (part_at t at n)))
-  six-length r h = rw part_of at h
-
-  -- their room
-  pub six-fits : (d : Text) → length (record_bytes (candidates (part_at t at n))) ≤ length d → 0 + length (record_bytes (candidates (take (at + n - at) (drop at t)))) ≤ length d
-  six-fits d h = let g : length (record_bytes (candidates (take (at + n - at) (drop at t)))) ≤ length d = rw (part_of t at n) h in omega arith
-
-  -- their bytes
-  pub six-put : (d o : Text) → o ≡ splice d 0 (record_bytes (candidates (take (at + n - at) (drop at t)))) → o ≡ splice d 0 (record_bytes (candidates (part_at t at n)))
-  six-put d o h = rw part_of at h
 
 -- ---- the prefixes of a spec that was read
 

@@ -6,7 +6,7 @@ use mathlib.Core.Bool.{Bool, true, false, cond}
 use mathlib.Core.List.{[], ◌∷◌}
 use mathlib.Core.Option.{Option, none, some}
 use lib.ListN.{length, take, drop, length-append}
-use Rattle.meaning.specs.Bytes.{Text, bytes, slash, ◌and◌, begins, has_byte, after, or_empty, object_id}
+use Rattle.meaning.specs.Bytes.{Text, bytes, slash, begins, has_byte, after, or_empty, object_id}
 use Rattle.meaning.specs.Prefix.{name_prefix, candidates, yielded_without, yielded_by, yielded}
 use Rattle.promises.proofs.Captures.{begins-is}
 use Rattle.text.proofs.Rests.{rest_part}

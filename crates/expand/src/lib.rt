@@ -1,27 +1,28 @@
 // The prefixes that a spec yields, written as a prefix list. Port of `expand_prefixes` in the crate's spec.rs.
+// As it is: (a) an operation is the C interface's number here; it is handed on as it stands to `parse`, which asks question 18 of it.
 #![tactic(auto)]
 
-ghost use Rattle.std.specs.Prelude.{◌≡◌, [], ◌∷◌, ◌+◌, ◌≤◌, length};
+ghost use Rattle.std.specs.Prelude.{◌≡◌, [], ◌∷◌, ◌≤◌, length};
 ghost use Rattle.std.proofs.Math.Option.{some};
 ghost use Rattle.meaning.specs.Limits.{spec_bytes};
 ghost use Rattle.meaning.specs.Spec.{accepted};
-ghost use Rattle.meaning.specs.Number.{text_bytes, record_bytes};
-ghost use Rattle.meaning.specs.Prefix.{candidates, expand_prefixes};
+ghost use Rattle.meaning.specs.Number.{record_bytes};
+ghost use Rattle.meaning.specs.Prefix.{expand_prefixes};
 ghost use Rattle.meaning.specs.Buffers.{MeetsOne};
 ghost use Rattle.meaning.specs.Entries.{expanded};
 ghost use Rattle.buffer.specs.Splice.{splice};
-ghost use Rattle.parse.specs.Places.{part_at, Within, SidesWithin, spec_meant};
-ghost use Rattle.refspec.specs.Instructions.{side_text};
-ghost use Rattle.expand.specs.Yields.{yield_without, yield_at, yield_place, yield_meant, YieldWithin};
+ghost use Rattle.parse.specs.Places.{Within, SidesWithin, spec_meant};
+ghost use Rattle.expand.specs.Yields.{yield_without, yield_place, yield_meant, YieldWithin};
 
 use buffer::written::{Written, done, refused, short};
 use frames::{candidates_size, put_candidates};
 use parse::parse;
-use parse::types::{RefSpec, Side, is_present};
+use parse::types::{RefSpec, Side};
 use refspec::spec::{prefix_of, remote};
 use spec_text::{put_side, side_size};
 
 // What a spec yields: nothing, one text, or the six candidates of the name of so many bytes that begins at a place.
+// As it is: (d) in an `Option` of the other two cases each match would have two layers.
 #[derive(Clone, Copy)]
 pub enum Yield {
     Nothing,
@@ -35,99 +36,67 @@ fn name_yield(t: &[u8], at: usize) -> Yield
 {
     if compare::begins(b"refs/", t) {
         if text::has_byte(b'/', &t[5..]) {
-            return Yield::Nothing;
+            Yield::Nothing
+        } else {
+            Yield::One(Side::Part(at, t.len()))
         }
-        return Yield::One(Side::Part(at, t.len()));
+    } else if hex_digits::object_id(t) {
+        Yield::Nothing
+    } else {
+        Yield::Six(at, t.len())
     }
-    if hex_digits::object_id(t) {
-        return Yield::Nothing;
-    }
-    Yield::Six(at, t.len())
 }
 
-// What the name of n bytes that begins at a place yields: its prefix, or what it yields without one.
-fn part_yield(spec: &[u8], at: usize, n: usize) -> Yield
-    requires { at + n ≤ length spec.now }
-    ensures { result ≡ yield_at spec.now at n }
-{
-    let prefix = prefix_of(spec, Side::Part(at, n));
-    if is_present(prefix) {
-        return Yield::One(prefix);
-    }
-    let end = at + n;
-    name_yield(&spec[at..end], at)
-}
-
-// What a side yields; an absent one nothing.
+// What a side yields: an absent one nothing, a part its prefix, or what its name yields without one.
 pub fn yield_of(spec: &[u8], side: Side) -> Yield
     requires { Within (length spec.now) side }
     ensures { result ≡ yield_place spec.now side }
 {
     match side {
         Side::Absent => Yield::Nothing,
-        Side::Part(at, n) => part_yield(spec, at, n),
+        Side::Part(at, n) => {
+            let prefix = prefix_of(spec, side);
+            if prefix.is_present() {
+                Yield::One(prefix)
+            } else {
+                name_yield(&spec[at..at + n], at)
+            }
+        }
         Side::Head => Yield::One(Side::Head),
     }
 }
 
-// How many bytes a side takes as a record.
-fn record_size(spec: &[u8], side: Side) -> usize
-    requires { Within (length spec.now) side × (length spec.now ≤ spec_bytes) }
-    ensures { result ≡ length (text_bytes (side_text spec.now side)) }
-{
-    let n = side_size(spec, side);
-    number::size(n) + n
-}
-
-// How many bytes the candidates of the name of n bytes that begins at a place take.
-fn six_size(spec: &[u8], at: usize, n: usize) -> usize
-    requires { (at + n ≤ length spec.now) × (length spec.now ≤ spec_bytes) }
-    ensures { result ≡ length (record_bytes (candidates (part_at spec.now at n))) }
-{
-    let end = at + n;
-    candidates_size(&spec[at..end])
-}
-
-// How many bytes a yield takes as a prefix list.
-fn yield_size(spec: &[u8], y: Yield) -> usize
-    requires { YieldWithin (length spec.now) y × (length spec.now ≤ spec_bytes) }
-    ensures { result ≡ length (record_bytes (yield_meant spec.now y)) }
-{
-    match y {
-        Yield::Nothing => 0,
-        Yield::One(side) => record_size(spec, side),
-        Yield::Six(at, n) => six_size(spec, at, n),
+impl Yield {
+    // How many bytes a yield takes as a prefix list.
+    fn size(self, spec: &[u8]) -> usize
+        requires { YieldWithin (length spec.now) self × (length spec.now ≤ spec_bytes) }
+        ensures { result ≡ length (record_bytes (yield_meant spec.now self)) }
+    {
+        match self {
+            Yield::Nothing => 0,
+            Yield::One(side) => {
+                let n = side_size(spec, side);
+                number::size(n) + n
+            }
+            Yield::Six(at, n) => candidates_size(&spec[at..at + n]),
+        }
     }
-}
 
-// Writes a side as a record at the start of the buffer.
-fn put_record(out: &mut [u8], spec: &[u8], side: Side)
-    requires { Within (length spec.now) side × (length spec.now ≤ spec_bytes) × (length (text_bytes (side_text spec.now side)) ≤ length out.old) }
-    ensures { out.new ≡ splice out.old 0 (text_bytes (side_text spec.now side)) }
-{
-    let n = side_size(spec, side);
-    let i = number::put(out, 0, n);
-    put_side(out, i, spec, side);
-}
-
-// Writes the candidates of the name of n bytes that begins at a place, at the start of the buffer.
-fn put_six(out: &mut [u8], spec: &[u8], at: usize, n: usize)
-    requires { (at + n ≤ length spec.now) × (length spec.now ≤ spec_bytes) × (length (record_bytes (candidates (part_at spec.now at n))) ≤ length out.old) }
-    ensures { out.new ≡ splice out.old 0 (record_bytes (candidates (part_at spec.now at n))) }
-{
-    let end = at + n;
-    put_candidates(out, 0, &spec[at..end]);
-}
-
-// Writes a yield as a prefix list at the start of the buffer.
-fn put_yield(out: &mut [u8], spec: &[u8], y: Yield)
-    requires { YieldWithin (length spec.now) y × (length spec.now ≤ spec_bytes) × (length (record_bytes (yield_meant spec.now y)) ≤ length out.old) }
-    ensures { out.new ≡ splice out.old 0 (record_bytes (yield_meant spec.now y)) }
-{
-    match y {
-        Yield::Nothing => (),
-        Yield::One(side) => put_record(out, spec, side),
-        Yield::Six(at, n) => put_six(out, spec, at, n),
+    // Writes a yield as a prefix list at the start of the buffer.
+    fn put(self, out: &mut [u8], spec: &[u8])
+        requires { YieldWithin (length spec.now) self × (length spec.now ≤ spec_bytes) × (length (record_bytes (yield_meant spec.now self)) ≤ length out.old) }
+        ensures { out.new ≡ splice out.old 0 (record_bytes (yield_meant spec.now self)) }
+    {
+        match self {
+            Yield::Nothing => {}
+            Yield::One(side) => {
+                let i = number::put(out, 0, side_size(spec, side));
+                put_side(out, i, spec, side);
+            }
+            Yield::Six(at, n) => {
+                put_candidates(out, 0, &spec[at..at + n]);
+            }
+        }
     }
 }
 
@@ -137,15 +106,16 @@ fn expand(op: u64, spec: &[u8], r: RefSpec, out: &mut [u8]) -> Written
     ensures { MeetsOne (accepted (some (record_bytes (expand_prefixes op (spec_meant spec.now r))) ∷ [])) out.old out.new result.refusal result.record result.length }
 {
     let y = yield_of(spec, remote(op, r));
-    let size = yield_size(spec, y);
+    let size = y.size(spec);
     if out.len() < size {
         return short(size);
     }
-    put_yield(out, spec, y);
+    y.put(out, spec);
     done(size)
 }
 
 // The prefixes that a spec yields, as a prefix list, for an operation, 0 fetch or 1 push.
+// As it is: (d) `write::to_bstring` has this form, a match of two arms; one function of both would be handed what the first arm does.
 pub fn expand_prefixes(op: u64, spec: &[u8], out: &mut [u8]) -> Written
     ensures { MeetsOne (expanded op spec.now) out.old out.new result.refusal result.record result.length }
 {

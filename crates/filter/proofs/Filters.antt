@@ -9,7 +9,7 @@ use borrow.Author.Tests.{eq-eqb, le-leb, ltb-false, lt-ltb, le-ltb}
 use lib.Dec.{ltb}
 use lib.ListN.{length, take, drop, length-append, length-drop}
 use lib.Seq.{take-take}
-use Rattle.meaning.specs.Bytes.{Text, bytes, ◌and◌, any, same, begins, ends}
+use Rattle.meaning.specs.Bytes.{Text, bytes, any, same, begins}
 use Rattle.meaning.specs.Limits.{name_bytes, spec_list_bytes}
 use Rattle.meaning.specs.Prefix.{candidates}
 use Rattle.meaning.specs.Match.{miss, capture, pattern, Form}
@@ -28,7 +28,7 @@ use Rattle.matcher.specs.declared.types.Target.{Target}
 use Rattle.matcher.specs.declared.types.Target.TheVariants as target
 use Rattle.matcher.specs.declared.types.Lead.{Lead}
 use Rattle.matcher.specs.declared.types.Matcher.{Matcher}
-use Rattle.matcher.specs.declared.types.Ends.TheVariants as ends
+use Rattle.std.specs.Prelude as prelude
 use Rattle.matcher.specs.Matching.{MatcherWithin, StarIn, needle_meant, target_meant}
 use Rattle.match_one.specs.Answers.{hit_by, needle_form, reverse_forms}
 use Rattle.match_one.proofs.Caught.{between}
@@ -173,7 +173,7 @@ part-filter-within side.Head = sized-within 4 (4 + longest_frame) true
 module _ (specs : Text) (m : Matcher) (w : MatcherWithin (length specs) m) where
   -- a filter by which nothing is hit
   forward-by : (f : Filter) → FilterWithin f → ((name : Text) → length name ≤ name_bytes → passes f name ≡ false → hit_by (needle_meant (side_text specs m.src) m.lhs) name ≡ miss) → StopsForward specs m f
-  forward-by f i h = record { stops = λ name l p s k. sym (forward-told specs name m ends.Nothing (rw (h name l p) (record { meant = refl; within = tt })) s k); within = i }
+  forward-by f i h = record { stops = λ name l p s k. sym (forward-told specs name m prelude.None (rw (h name l p) (record { meant = refl; within = tt })) s k); within = i }
 
   -- each needle is missed by what its filter stops
   pub forward-stops : StopsForward specs m (forward_filter specs m)
@@ -191,7 +191,7 @@ module _ (specs : Text) (m : Matcher) (w : MatcherWithin (length specs) m) where
 
   -- a filter by which nothing comes back
   reverse-by : (f : Filter) → FilterWithin f → ((name : Text) → length name ≤ name_bytes → passes f name ≡ false → (g : Option Form) → reverse_forms g (target_meant (side_text specs m.dst) m.rhs) name ≡ none) → StopsReverse specs m f
-  reverse-by f i h = record { stops = λ name l p s k. sym (back-told specs name m ends.Nothing (rw (h name l p (needle_form (side_text specs m.src) m.lhs)) (record { meant = refl; within = tt })) s k); within = i }
+  reverse-by f i h = record { stops = λ name l p s k. sym (back-told specs name m prelude.None (rw (h name l p (needle_form (side_text specs m.src) m.lhs)) (record { meant = refl; within = tt })) s k); within = i }
 
   back_none : (name : Text) (g : Option Form) → reverse_forms g none name ≡ none
   back_none name none = refl

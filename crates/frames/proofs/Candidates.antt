@@ -1,21 +1,22 @@
 -- The candidates of a partial name, number by number. Assumes nothing.
-use mathlib.Core.Path.{◌≡◌, refl, sym, ap, ◌∙◌}
-use mathlib.Core.List.{[], ◌∷◌, ◌++◌, append-nil}
+use mathlib.Core.Path.{◌≡◌, refl, sym, ap}
+use mathlib.Core.List.{[], ◌∷◌, ◌++◌}
 use Prim.Native.Nat.{ℕ, zero, suc, ◌+◌, ◌*◌, ◌<◌, ◌≤◌}
 use native.Mathlib.Omega.{arith}
 use mir.Val.{Fits}
 use mir.Syntax.{w64}
 use lib.Dec.{lit≤}
-use lib.ListN.{length, take, drop, get_or, length-append, length-take}
-use Rattle.meaning.specs.Bytes.{Text, bytes}
+use lib.ListN.{length, drop, get_or, length-append}
+use Rattle.meaning.specs.Bytes.{Text}
 use Rattle.meaning.specs.Limits.{spec_list_bytes, largest_number, number_groups}
 use Rattle.meaning.specs.Number.{number_bytes, text_bytes, record_bytes}
 use Rattle.meaning.specs.Prefix.{framed, candidates}
 use Rattle.buffer.specs.Splice.{splice}
+use Rattle.buffer.proofs.Pairs.{pair-first, pair-second, pair_put, pair_end}
 use Rattle.buffer.proofs.Writing.{Writing, writing-starts, writing-room, writing_more, written-place, written-whole}
 use Rattle.number.proofs.Bytes.{bytes-few}
 use Rattle.number.proofs.Texts.{text-size}
-use Rattle.frames.specs.Frames.{longest_frame, Framing, candidate, frame_at}
+use Rattle.frames.specs.Frames.{longest_frame, candidate, frame_at}
 
 -- what holds of each of the six numbers
 pub six : (P : ℕ → Type 0) → P 0 → P 1 → P 2 → P 3 → P 4 → P 5 → (k : ℕ) → k < 6 → P k
@@ -63,73 +64,51 @@ pub records-end : (t : Text) (k : ℕ) → 6 ≤ k → k ≤ 6 → record_bytes 
 unfolding record_bytes
 records-end t k h l = let e : k ≡ 6 = omega arith in rw e
 
--- the two sizes of an entry of the table
-module _ (k : ℕ) (h : k < 6) (leading : Text) (n trailing : ℕ) (f : Framing (frame_at k) leading n trailing) where
-  -- the leading text's
-  pub leading-within : n ≤ 13
-  leading-within = omega (arith, leading-short k h, f.leads_by)
+-- the parts of a frame, which the code measures, and the candidate that they make of a name
+module _ (t : Text) (k : ℕ) (h : k < 6) (leading trailing : Text) (f : (leading ≡ (frame_at k).leading) × (trailing ≡ (frame_at k).trailing)) where
+  pub leading-within : length leading ≤ 13
+  leading-within = rw f.0 (leading-short k h)
 
-  -- which the entry holds
-  pub leading-there : n ≤ length leading
-  leading-there = omega (arith, length-take n leading, ap length f.leads, f.leads_by)
+  pub trailing-within : length trailing ≤ 5
+  trailing-within = rw f.1 (trailing-short k h)
 
-  -- what trails
-  pub trailing-within : trailing ≤ 5
-  trailing-within = omega (arith, trailing-short k h, f.trails_by)
-
-  -- as many bytes are taken of the entry
-  pub leading-taken : n ≡ length (take n leading)
-  leading-taken = f.leads_by ∙ ap length (sym f.leads)
-
-  -- and of `/HEAD`
-  pub trailing-taken : trailing ≡ length (take trailing (bytes "/HEAD"))
-  trailing-taken = f.trails_by ∙ ap length (sym f.trails)
-
--- an entry of the table, and the candidate that it makes of a name
-module _ (t : Text) (k : ℕ) (h : k < 6) (leading : Text) (n trailing : ℕ) (f : Framing (frame_at k) leading n trailing) where
   -- its size
-  pub framing-size : n + length t + trailing ≡ length (candidate k t)
-  framing-size = omega (arith, candidate-length t k h, f.leads_by, f.trails_by)
+  pub framed-size : length leading + length t + length trailing ≡ length (candidate k t)
+  framed-size = rw (f.0, f.1) (sym (candidate-length t k h))
 
-  pieces : candidate k t ≡ take n leading ++ (t ++ take trailing (bytes "/HEAD"))
-  pieces = rw (f.leads, f.trails) (candidate-framed t k h)
+  pub pieces : candidate k t ≡ leading ++ (t ++ trailing)
+  pieces = rw (f.0, f.1) (candidate-framed t k h)
 
-  -- the candidate written piece by piece: its leading text, the name, and what trails
-  module _ (d : Text) (at : ℕ) (fits : at + length (candidate k t) ≤ length d) where
-    start : Writing d at (candidate k t) d at (candidate k t)
-    start = writing-starts d at (candidate k t) fits
+-- a text of three pieces, written one after another
+module _ (d : Text) (at : ℕ) (whole a b c : Text) (e : whole ≡ a ++ (b ++ c)) (fits : at + length whole ≤ length d) where
+  room : at + length (a ++ (b ++ c)) ≤ length d
+  room = rw e at fits
 
-    -- the leading text has room
-    pub leading-room : at + length (take n leading) ≤ length d
-    leading-room = writing-room d at (candidate k t) d at (candidate k t) start (take n leading) (t ++ take trailing (bytes "/HEAD")) pieces
+  -- the first has room
+  pub first-room : at + length a ≤ length d
+  first-room = pair-first d at a (b ++ c) room
 
-    module _ (d₁ : Text) (i : ℕ) (p₁ : d₁ ≡ splice d at (take n leading)) (e₁ : i ≡ at + length (take n leading)) where
-      leading-put : Writing d at (candidate k t) d₁ i (t ++ take trailing (bytes "/HEAD"))
-      leading-put = writing_more d at (candidate k t) d at (candidate k t) start (take n leading) (t ++ take trailing (bytes "/HEAD")) pieces d₁ i p₁ e₁
+  module _ (d₁ : Text) (i : ℕ) (p₁ : d₁ ≡ splice d at a) (e₁ : i ≡ at + length a) where
+    rest-room : i + length (b ++ c) ≤ length d₁
+    rest-room = pair-second d at a (b ++ c) room d₁ i p₁ e₁
 
-      -- the name has room after it
-      pub name-room : i + length t ≤ length d₁
-      name-room = writing-room d at (candidate k t) d₁ i (t ++ take trailing (bytes "/HEAD")) leading-put t (take trailing (bytes "/HEAD")) refl
+    -- the second after it
+    pub second-room : i + length b ≤ length d₁
+    second-room = pair-first d₁ i b c rest-room
 
-      module _ (d₂ : Text) (j : ℕ) (p₂ : d₂ ≡ splice d₁ i t) (e₂ : j ≡ i + length t) where
-        name-put : Writing d at (candidate k t) d₂ j (take trailing (bytes "/HEAD"))
-        name-put = writing_more d at (candidate k t) d₁ i (t ++ take trailing (bytes "/HEAD")) leading-put t (take trailing (bytes "/HEAD")) refl d₂ j p₂ e₂
+    module _ (d₂ : Text) (j : ℕ) (p₂ : d₂ ≡ splice d₁ i b) (e₂ : j ≡ i + length b) where
+      -- the third after that
+      pub third-room : j + length c ≤ length d₂
+      third-room = pair-second d₁ i b c rest-room d₂ j p₂ e₂
 
-        -- what trails has room after that
-        pub trailing-room : j + length (take trailing (bytes "/HEAD")) ≤ length d₂
-        trailing-room = writing-room d at (candidate k t) d₂ j (take trailing (bytes "/HEAD")) name-put (take trailing (bytes "/HEAD")) [] (sym (append-nil (take trailing (bytes "/HEAD"))))
+      module _ (d₃ : Text) (r : ℕ) (p₃ : d₃ ≡ splice d₂ j c) (e₃ : r ≡ j + length c) where
+        -- and all three are the whole
+        pub three-put : d₃ ≡ splice d at whole
+        three-put = rw e (pair_put d at a (b ++ c) room d₁ i p₁ e₁ d₃ (pair_put d₁ i b c rest-room d₂ j p₂ e₂ d₃ p₃))
 
-        module _ (d₃ : Text) (r : ℕ) (p₃ : d₃ ≡ splice d₂ j (take trailing (bytes "/HEAD"))) (e₃ : r ≡ j + length (take trailing (bytes "/HEAD"))) where
-          all-put : Writing d at (candidate k t) d₃ r []
-          all-put = writing_more d at (candidate k t) d₂ j (take trailing (bytes "/HEAD")) name-put (take trailing (bytes "/HEAD")) [] (sym (append-nil (take trailing (bytes "/HEAD")))) d₃ r p₃ e₃
-
-          -- and all three are the candidate
-          pub candidate-put : d₃ ≡ splice d at (candidate k t)
-          candidate-put = written-whole d at (candidate k t) d₃ r [] all-put refl
-
-          -- which ends there
-          pub candidate-ends : r ≡ at + length (candidate k t)
-          candidate-ends = written-place d at (candidate k t) d₃ r [] all-put refl
+        -- which ends there
+        pub three-end : r ≡ at + length whole
+        three-end = rw e (pair_end d at a (b ++ c) room d₁ i p₁ e₁ r (pair_end d₁ i b c rest-room d₂ j p₂ e₂ r e₃))
 
 -- a candidate's length is a number
 pub candidate-number : (t : Text) (k : ℕ) → k < 6 → length t ≤ spec_list_bytes → (n : ℕ) → n ≡ length (candidate k t) → n ≤ largest_number

@@ -1,20 +1,19 @@
 -- A name against the candidates of a partial name: piece by piece, and that its size tells which it may be. Assumes nothing.
 use mathlib.Core.Path.{◌≡◌, refl, sym, ap, ◌∙◌}
-use mathlib.Core.Bool.{Bool, true, false, not}
+use mathlib.Core.Bool.{Bool, true, false, cond}
 use mathlib.Core.List.{List, [], ◌∷◌, ◌++◌}
-use Prim.Native.Nat.{ℕ, zero, suc, ◌+◌, ◌-◌, ◌<◌, ◌≤◌}
+use Prim.Native.Nat.{ℕ, zero, suc, ◌+◌, ◌-◌, ◌<◌}
 use native.Mathlib.Omega.{arith}
-use borrow.Author.Tests.{eq-eqb, ne_eqb, eqb-true, eqb-false, not-true, not-false}
-use mir.Val.{Fits}
-use mir.Syntax.{w64}
 use lib.Dec.{eqb}
 use lib.ListN.{length, take, drop, get_or}
-use Rattle.meaning.specs.Bytes.{Text, bytes, ◌and◌, any, same, begins}
+use lib.Seq.{drop-drop}
+use Rattle.meaning.specs.Bytes.{Text, ◌and◌, any, same, begins}
 use Rattle.meaning.specs.Prefix.{candidates}
 use Rattle.text.proofs.Rests.{rest_part}
+use Rattle.text.proofs.Rows.{and-false}
 use Rattle.compare.proofs.Sames.{eqb_swap, same-other-length, or-false}
-use Rattle.frames.specs.Frames.{Framing, candidate, frame_at, adds, frame_adding}
-use Rattle.frames.proofs.Candidates.{six, candidate-framed, candidate-length, leading-within, trailing-within}
+use Rattle.frames.specs.Frames.{candidate, adds}
+use Rattle.frames.proofs.Candidates.{six, candidate-length}
 
 both-again : (a b c : Bool) → (a and (b and c)) ≡ ((a and b) and c)
 both-again true b c = refl
@@ -27,143 +26,47 @@ same-append [] (x ∷ a) rest = refl
 same-append (y ∷ name) (x ∷ a) rest =
     rw (eqb_swap y x, same-append name a rest) (both-again (eqb x y) (begins a name) (same (drop (length a) name) rest))
 
--- ---- the frame, by its entry of the table
-module _ (k : ℕ) (leading : Text) (n trailing : ℕ) (f : Framing (frame_at k) leading n trailing) (m : ℕ) (name : Text) where
-  module _ (r : Bool) (e : r ≡ begins (take n leading) name) where
-    leads : begins (frame_at k).leading name ≡ r
-    leads = sym (rw f.leads at e)
-
-    -- the name does not begin with the leading text
-    pub leads-not : not r ≡ true → false ≡ (begins (frame_at k).leading name and same (drop m (drop (length (frame_at k).leading) name)) (frame_at k).trailing)
-    leads-not z = sym (rw (leads ∙ not-true r z))
-
-    -- it does, and what is left is what trails
-    pub trails-told : not r ≡ false → (p : Bool) → p ≡ same (take (length (take (length name - n) (drop n name)) - m) (drop m (take (length name - n) (drop n name)))) (take trailing (bytes "/HEAD"))
-        → p ≡ (begins (frame_at k).leading name and same (drop m (drop (length (frame_at k).leading) name)) (frame_at k).trailing)
-    trails-told y p ep =
-        let a : take (length (take (length name - n) (drop n name)) - m) (drop m (take (length name - n) (drop n name))) ≡ drop m (drop (length (frame_at k).leading) name) =
-        rest_part (take (length name - n) (drop n name)) m ∙ ap (drop m) (rest_part name n ∙ ap (λ (i : ℕ). drop i name) f.leads_by) in
-        rw (a, f.trails) at ep ∙ sym (rw (leads ∙ not-false r y))
-
 -- ---- the pieces
-module _ (t name : Text) (k : ℕ) (h : k < 6) where
-  parted : same name (candidate k t) ≡ (begins (frame_at k).leading name and (begins t (drop (length (frame_at k).leading) name) and same (drop (length t) (drop (length (frame_at k).leading) name)) (frame_at k).trailing))
+module _ (t name : Text) (k : ℕ) (leading trailing : Text) (f : candidate k t ≡ leading ++ (t ++ trailing)) where
+  parted : same name (candidate k t) ≡ (begins leading name and (begins t (drop (length leading) name) and same (drop (length leading + length t) name) trailing))
   parted =
-      ap (same name) (candidate-framed t k h)
-      ∙ same-append name (frame_at k).leading (t ++ (frame_at k).trailing)
-      ∙ rw (same-append (drop (length (frame_at k).leading) name) t (frame_at k).trailing)
+      ap (same name) f
+      ∙ same-append name leading (t ++ trailing)
+      ∙ rw (same-append (drop (length leading) name) t trailing, drop-drop)
 
-  and-false : (b : Bool) → (b and false) ≡ false
-  and-false true = refl
-  and-false false = refl
+  module _ (q : Bool) (eq : q ≡ begins t (take (length name - length leading) (drop (length leading) name))) where
+    named : q ≡ begins t (drop (length leading) name)
+    named = rw rest_part at eq
 
-  module _ (n : ℕ) (en : n ≡ length (frame_at k).leading) where
-    module _ (q : Bool) (eq : q ≡ begins t (take (length name - n) (drop n name))) where
-      named : begins t (drop (length (frame_at k).leading) name) ≡ q
-      named = sym (eq ∙ ap (begins t) (rest_part name n ∙ ap (λ (i : ℕ). drop i name) en))
+    -- the rest does not begin with the partial name
+    pub names-not : q ≡ false → false ≡ same name (candidate k t)
+    names-not z = sym (parted ∙ rw (← named, z) (and-false (begins leading name)))
 
-      -- the rest does not begin with the partial name
-      pub names-not : not q ≡ true → false ≡ same name (candidate k t)
-      names-not z = sym (parted ∙ rw (named ∙ not-true q z) (and-false (begins (frame_at k).leading name)))
+    module _ (yes : q ≡ true) (r : Bool) (er : r ≡ begins leading name) where
+      -- the name does not begin with what leads
+      pub leads-not : r ≡ false → r ≡ same name (candidate k t)
+      leads-not z = z ∙ sym (parted ∙ rw (← er, z))
 
-      -- it does, and the frame decides
-      pub names-told : not q ≡ false → (p : Bool) → p ≡ (begins (frame_at k).leading name and same (drop (length t) (drop (length (frame_at k).leading) name)) (frame_at k).trailing) → p ≡ same name (candidate k t)
-      names-told z p e = e ∙ sym (parted ∙ rw (named ∙ not-false q z))
+      -- it does, and what is left is what trails
+      pub trails-told : r ≡ true → (p : Bool) → p ≡ same (take (length name - (length leading + length t)) (drop (length leading + length t) name)) trailing → p ≡ same name (candidate k t)
+      trails-told z p e = rw rest_part at e ∙ sym (parted ∙ rw (← er, z, ← named, yes))
 
--- ---- how many bytes a frame and a name have together
-module _ (size frame name : ℕ) where
-  pub size-short : size < frame → false ≡ eqb size (frame + name)
-  size-short h = sym (ne_eqb size (frame + name) (λ e. omega arith))
-
-  pub size-left : frame ≤ size → eqb (size - frame) name ≡ eqb size (frame + name)
-  size-left h = go (eqb (size - frame) name) refl
-    where
-      go : (b : Bool) → eqb (size - frame) name ≡ b → b ≡ eqb size (frame + name)
-      go true e = sym (eq-eqb size (frame + name) (omega (arith, eqb-true (size - frame) name e)))
-      go false e = sym (ne_eqb size (frame + name) (λ q. eqb-false (size - frame) name e (omega arith)))
-
-pub frame-fits : (k : ℕ) → k < 6 → (leading : Text) (n trailing : ℕ) → Framing (frame_at k) leading n trailing → Fits w64 (n + trailing)
-frame-fits k h leading n trailing f = omega (arith, leading-within k h leading n trailing f, trailing-within k h leading n trailing f)
+-- ---- how many bytes a frame adds
 
 -- a name of another size is no candidate
-other-size : (t name : Text) (k : ℕ) → k < 6 → (length name ≡ length t + adds k → ⊥) → same name (candidate k t) ≡ false
+pub other-size : (t name : Text) (k : ℕ) → k < 6 → (length name ≡ length t + adds k → ⊥) → same name (candidate k t) ≡ false
 other-size t name k h no_size = same-other-length name (candidate k t) (λ e. no_size (omega (arith, e, candidate-length t k h)))
 
-module _ (t name : Text) (k : ℕ) (h : k < 6) (leading : Text) (n trailing : ℕ) (f : Framing (frame_at k) leading n trailing) (r : Bool) (e : r ≡ eqb (length name) (n + trailing + length t)) where
-  pub size-not : not r ≡ true → false ≡ same name (candidate k t)
-  size-not z =
-      let d = eqb-false (length name) (n + trailing + length t) (sym e ∙ not-true r z) in
-      sym (other-size t name k h (λ q. d (omega (arith, f.leads_by, f.trails_by))))
+-- the number of the frame that adds so many
+abbrev number_by : ℕ → ℕ
+number_by d = cond (eqb d 0) 0 (cond (eqb d 5) 1 (cond (eqb d 10) 2 (cond (eqb d 11) 3 (cond (eqb d 13) 4 5))))
 
-  -- and of its own
-  pub size_is : not r ≡ false → length name ≡ length t + adds k
-  size_is z = omega (arith, eqb-true (length name) (n + trailing + length t) (sym e ∙ not-false r z), f.leads_by, f.trails_by)
+number_of : (k : ℕ) → k < 6 → number_by (adds k) ≡ k
+number_of = six (λ (k : ℕ). number_by (adds k) ≡ k) refl refl refl refl refl refl
 
--- ---- the frame that adds so many bytes
-
--- what each frame adds tells its number
-number_of : (k : ℕ) → k < 6 → frame_adding (adds k) ≡ k
-unfolding frame_adding
-number_of = six (λ (k : ℕ). frame_adding (adds k) ≡ k) refl refl refl refl refl refl
-
--- one of the frames adds d bytes
-record One (d k : ℕ) : Type 0 where
-  small : k < 6
-  size : d ≡ adds k
-
-one_of : (d : ℕ) → (frame_adding d ≡ 6 → ⊥) → One d (frame_adding d)
-unfolding frame_adding
-one_of d there = go (eqb d 0) refl (eqb d 5) refl (eqb d 10) refl (eqb d 11) refl (eqb d 13) refl (eqb d 18) refl
-  where
-    go : (p : Bool) → eqb d 0 ≡ p → (q : Bool) → eqb d 5 ≡ q → (r : Bool) → eqb d 10 ≡ r → (s : Bool) → eqb d 11 ≡ s → (t : Bool) → eqb d 13 ≡ t → (u : Bool) → eqb d 18 ≡ u → One d (frame_adding d)
-    go true a q b r c s e t f u g = rw a (record { small = omega arith; size = eqb-true d 0 a })
-    go false a true b r c s e t f u g = rw (a, b) (record { small = omega arith; size = eqb-true d 5 b })
-    go false a false b true c s e t f u g = rw (a, b, c) (record { small = omega arith; size = eqb-true d 10 c })
-    go false a false b false c true e t f u g = rw (a, b, c, e) (record { small = omega arith; size = eqb-true d 11 e })
-    go false a false b false c false e true f u g = rw (a, b, c, e, f) (record { small = omega arith; size = eqb-true d 13 f })
-    go false a false b false c false e false f true g = rw (a, b, c, e, f, g) (record { small = omega arith; size = eqb-true d 18 g })
-    go false a false b false c false e false f false g = absurd (there (rw (a, b, c, e, f, g)))
-
--- the arms of a `match`
-module _ (d : ℕ) where
-  pub adding-nothing : d ≡ 0 → 0 ≡ frame_adding d
-  unfolding frame_adding
-  adding-nothing e = rw e
-
-  pub adding-refs : d ≡ 5 → 1 ≡ frame_adding d
-  unfolding frame_adding
-  adding-refs e = rw e
-
-  pub adding-tags : d ≡ 10 → 2 ≡ frame_adding d
-  unfolding frame_adding
-  adding-tags e = rw e
-
-  pub adding-heads : d ≡ 11 → 3 ≡ frame_adding d
-  unfolding frame_adding
-  adding-heads e = rw e
-
-  pub adding-remotes : d ≡ 13 → 4 ≡ frame_adding d
-  unfolding frame_adding
-  adding-remotes e = rw e
-
-  pub adding-head : d ≡ 18 → 5 ≡ frame_adding d
-  unfolding frame_adding
-  adding-head e = rw e
-
-  pub adding-none : (d ≡ 0 → ⊥) → (d ≡ 5 → ⊥) → (d ≡ 10 → ⊥) → (d ≡ 11 → ⊥) → (d ≡ 13 → ⊥) → (d ≡ 18 → ⊥) → 6 ≡ frame_adding d
-  unfolding frame_adding
-  adding-none a b c e f g = rw (ne_eqb d 0 a, ne_eqb d 5 b, ne_eqb d 10 c, ne_eqb d 11 e, ne_eqb d 13 f, ne_eqb d 18 g)
-
--- thirteen bytes lead in the last two
-pub leading-last : (k : ℕ) → k < 6 → (k ≡ 0 → ⊥) → (k ≡ 1 → ⊥) → (k ≡ 2 → ⊥) → (k ≡ 3 → ⊥) → 13 ≡ length (frame_at k).leading
-leading-last =
-    six (λ (k : ℕ). (k ≡ 0 → ⊥) → (k ≡ 1 → ⊥) → (k ≡ 2 → ⊥) → (k ≡ 3 → ⊥) → 13 ≡ length (frame_at k).leading)
-    (λ a b c d. absurd (a refl))
-    (λ a b c d. absurd (b refl))
-    (λ a b c d. absurd (c refl))
-    (λ a b c d. absurd (d refl))
-    (λ a b c d. refl)
-    (λ a b c d. refl)
+-- no two add as many
+adds-once : (j k : ℕ) → j < 6 → k < 6 → adds j ≡ adds k → j ≡ k
+adds-once j k h i e = sym (number_of j h) ∙ ap number_by e ∙ number_of k i
 
 -- ---- one candidate at most has the size of a name
 module _ (test : Text → Bool) where
@@ -184,28 +87,13 @@ module _ (t name : Text) where
   unfolding candidate
   too_short h = sym (any_none (same name) (candidates t) (λ j i. other-size t name j i (λ e. omega arith)))
 
-  module _ (h : length t ≤ length name) (k : ℕ) (ek : k ≡ frame_adding (length name - length t)) where
-    told-number : (j : ℕ) → j < 6 → length name ≡ length t + adds j → k ≡ j
-    told-number j i e =
-        let z : length name - length t ≡ adds j = omega arith in
-        ek ∙ ap frame_adding z ∙ number_of j i
-
+  module _ (d : ℕ) (e : d + length t ≡ length name) where
     -- none has its size
-    pub no-frame : k ≡ 6 → false ≡ any (same name) (candidates t)
+    pub no-frame : ((k : ℕ) → k < 6 → d ≡ adds k → ⊥) → false ≡ any (same name) (candidates t)
     unfolding candidate
-    no-frame e = sym (any_none (same name) (candidates t) (λ j i. other-size t name j i (λ q. omega (arith, told-number j i q))))
+    no-frame none = sym (any_none (same name) (candidates t) (λ j i. other-size t name j i (λ q. none j i (omega arith))))
 
-    module _ (there : k ≡ 6 → ⊥) where
-      one : One (length name - length t) k
-      one = rw ek (one_of (length name - length t) (λ e. there (ek ∙ e)))
-
-      pub frame_small : k < 6
-      frame_small = one.small
-
-      pub frame-size : length name ≡ length t + adds k
-      frame-size = omega (arith, one.size)
-
-      -- one has
-      pub one_told : (r : Bool) → r ≡ same name (candidate k t) → r ≡ any (same name) (candidates t)
-      unfolding candidate
-      one_told r e = e ∙ sym (any-one (same name) (candidates t) k one.small (λ j i d. other-size t name j i (λ q. d (sym (told-number j i q)))))
+    -- one has
+    pub one_told : (k : ℕ) → k < 6 → d ≡ adds k → (r : Bool) → r ≡ same name (candidate k t) → r ≡ any (same name) (candidates t)
+    unfolding candidate
+    one_told k h a r g = g ∙ sym (any-one (same name) (candidates t) k h (λ j i n. other-size t name j i (λ q. n (adds-once j k i h (omega arith)))))

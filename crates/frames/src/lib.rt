@@ -1,17 +1,13 @@
 // The six frames of a partial name, and the candidates that they make. Port of `expand_partial_name` in the crate's spec.rs.
 #![tactic(auto)]
 
-ghost use Rattle.std.specs.Prelude.{◌≡◌, ◌+◌, ◌<◌, ◌≤◌, eqb, length, drop};
-ghost use Rattle.meaning.specs.Bytes.{◌and◌, any, same, begins};
+ghost use Rattle.std.specs.Prelude.{◌≡◌, ℕ, ◌+◌, ◌<◌, ◌≤◌, MatchOption, length};
+ghost use Rattle.meaning.specs.Bytes.{any, same};
 ghost use Rattle.meaning.specs.Limits.{spec_list_bytes};
 ghost use Rattle.meaning.specs.Number.{text_bytes, record_bytes};
 ghost use Rattle.meaning.specs.Prefix.{candidates};
-ghost use Rattle.buffer.specs.Splice.{splice};
-ghost use Rattle.frames.specs.Frames.{Framing, frame_at, candidate, adds, frame_adding};
-
-// A frame: its leading text, how many of these bytes count, and how many bytes of `/HEAD` trail.
-#[derive(Clone, Copy)]
-struct Frame([u8; 13], usize, usize);
+ghost use Rattle.buffer.specs.Splice.{RoomFor, Puts};
+ghost use Rattle.frames.specs.Frames.{frame_at, candidate, adds};
 
 // How many frames there are.
 pub const FRAMES: usize = 6;
@@ -19,23 +15,45 @@ pub const FRAMES: usize = 6;
 // The most bytes that a frame adds to a name: `refs/remotes/` and `/HEAD`.
 pub const LONGEST_FRAME: usize = 18;
 
-// The frames, by candidate number.
-const TABLE: [Frame; 6] = [
-    Frame(*b"\0\0\0\0\0\0\0\0\0\0\0\0\0", 0, 0),
-    Frame(*b"refs/\0\0\0\0\0\0\0\0", 5, 0),
-    Frame(*b"refs/tags/\0\0\0", 10, 0),
-    Frame(*b"refs/heads/\0\0", 11, 0),
-    Frame(*b"refs/remotes/", 13, 0),
-    Frame(*b"refs/remotes/", 13, 5),
-];
+// A frame: what leads a name, and what trails it.
+#[derive(Clone, Copy)]
+struct Frame {
+    leading: &'static [u8],
+    trailing: &'static [u8],
+}
 
-// What trails in the last frame.
-const HEAD: [u8; 5] = *b"/HEAD";
+// The frames, by candidate number.
+const TABLE: &[Frame; 6] = &[
+    Frame {
+        leading: b"",
+        trailing: b"",
+    },
+    Frame {
+        leading: b"refs/",
+        trailing: b"",
+    },
+    Frame {
+        leading: b"refs/tags/",
+        trailing: b"",
+    },
+    Frame {
+        leading: b"refs/heads/",
+        trailing: b"",
+    },
+    Frame {
+        leading: b"refs/remotes/",
+        trailing: b"",
+    },
+    Frame {
+        leading: b"refs/remotes/",
+        trailing: b"/HEAD",
+    },
+];
 
 // Frame number k.
 fn frame_of(k: usize) -> Frame
     requires { k < 6 }
-    ensures { Framing (frame_at k) result.0 result.1 result.2 }
+    ensures { (result.leading.now ≡ (frame_at k).leading) × (result.trailing.now ≡ (frame_at k).trailing) }
 {
     TABLE[k]
 }
@@ -46,22 +64,18 @@ fn candidate_size(k: usize, name: &[u8]) -> usize
     ensures { result ≡ length (candidate k name.now) }
 {
     let f = frame_of(k);
-    f.1 + name.len() + f.2
+    f.leading.len() + name.len() + f.trailing.len()
 }
 
 // Candidate number k of a name, written from `at` on; the place after it.
 pub fn put_candidate(out: &mut [u8], at: usize, k: usize, name: &[u8]) -> usize
-    requires { (k < 6) × (at + length (candidate k name.now) ≤ length out.old) }
-    ensures { (out.new ≡ splice out.old at (candidate k name.now)) × (result ≡ at + length (candidate k name.now)) }
+    requires { (k < 6) × RoomFor out.old at (candidate k name.now) }
+    ensures { Puts out.old at (candidate k name.now) out.new result }
 {
     let f = frame_of(k);
-    let leading = f.0;
-    let n = f.1;
-    let i = buffer::put(out, at, &leading[..n]);
+    let i = buffer::put(out, at, f.leading);
     let j = buffer::put(out, i, name);
-    let trailing = HEAD;
-    let t = f.2;
-    buffer::put(out, j, &trailing[..t])
+    buffer::put(out, j, f.trailing)
 }
 
 // How many bytes candidate number k has as a record of a prefix list.
@@ -75,11 +89,10 @@ pub fn record_size(k: usize, name: &[u8]) -> usize
 
 // Candidate number k as a record of a prefix list, written from `at` on; the place after it.
 pub fn put_record(out: &mut [u8], at: usize, k: usize, name: &[u8]) -> usize
-    requires { (k < 6) × (length name.now ≤ spec_list_bytes) × (at + length (text_bytes (candidate k name.now)) ≤ length out.old) }
-    ensures { (out.new ≡ splice out.old at (text_bytes (candidate k name.now))) × (result ≡ at + length (text_bytes (candidate k name.now))) }
+    requires { (k < 6) × (length name.now ≤ spec_list_bytes) × RoomFor out.old at (text_bytes (candidate k name.now)) }
+    ensures { Puts out.old at (text_bytes (candidate k name.now)) out.new result }
 {
-    let n = candidate_size(k, name);
-    let i = number::put(out, at, n);
+    let i = number::put(out, at, candidate_size(k, name));
     put_candidate(out, i, k, name)
 }
 
@@ -89,64 +102,35 @@ pub fn candidates_size(name: &[u8]) -> usize
     ensures { result ≡ length (record_bytes (candidates name.now)) }
 {
     let mut size = 0;
-    let mut k = 0;
-    while k < FRAMES {
+    for k in 0..FRAMES {
         size += record_size(k, name);
-        k += 1;
     }
     size
 }
 
 // The candidates of a name as a prefix list, written from `at` on; the place after it.
 pub fn put_candidates(out: &mut [u8], at: usize, name: &[u8]) -> usize
-    requires { (length name.now ≤ spec_list_bytes) × (at + length (record_bytes (candidates name.now)) ≤ length out.old) }
-    ensures { (out.new ≡ splice out.old at (record_bytes (candidates name.now))) × (result ≡ at + length (record_bytes (candidates name.now))) }
+    requires { (length name.now ≤ spec_list_bytes) × RoomFor out.old at (record_bytes (candidates name.now)) }
+    ensures { Puts out.old at (record_bytes (candidates name.now)) out.new result }
 {
     let mut i = at;
-    let mut k = 0;
-    while k < FRAMES {
+    for k in 0..FRAMES {
         i = put_record(out, i, k, name);
-        k += 1;
     }
     i
 }
 
-// So many bytes are as many as a frame and a name have together.
-fn has_size(size: usize, frame: usize, name: usize) -> bool
-    ensures { result ≡ eqb size (frame + name) }
-{
-    if size < frame {
-        return false;
-    }
-    size - frame == name
-}
-
-// What stands before and after the m bytes of a partial name in a name is frame number k.
-fn has_frame(k: usize, m: usize, name: &[u8]) -> bool
-    requires { (k < 6) × (length name.now ≡ m + adds k) }
-    ensures { result ≡ (begins (frame_at k).leading name.now and same (drop m (drop (length (frame_at k).leading) name.now)) (frame_at k).trailing) }
-{
-    let f = frame_of(k);
-    let leading = f.0;
-    let n = f.1;
-    if !compare::begins(&leading[..n], name) {
-        return false;
-    }
-    let rest = &name[n..];
-    let trailing = HEAD;
-    let u = f.2;
-    compare::same(&rest[m..], &trailing[..u])
-}
-
-// A name of its size is candidate number k of a partial name t, whose place in it is n. Most differ in the partial name.
-fn has_pieces(k: usize, n: usize, t: &[u8], name: &[u8]) -> bool
-    requires { (k < 6) × (n ≡ length (frame_at k).leading) × (length name.now ≡ length t.now + adds k) }
+// A name of its size is a partial name t in the frame number k. Most differ in the partial name.
+fn is_framed(k: usize, t: &[u8], name: &[u8]) -> bool
+    requires { (k < 6) × (length name.now ≡ length t.now + adds k) }
     ensures { result ≡ same name.now (candidate k t.now) }
 {
+    let f = frame_of(k);
+    let n = f.leading.len();
     if !compare::begins(t, &name[n..]) {
         return false;
     }
-    has_frame(k, t.len(), name)
+    compare::begins(f.leading, name) && compare::same(&name[n + t.len()..], f.trailing)
 }
 
 // A name is candidate number k of a partial name t. Most names differ in size.
@@ -155,38 +139,24 @@ pub fn is_candidate(k: usize, t: &[u8], name: &[u8]) -> bool
     ensures { result ≡ same name.now (candidate k t.now) }
 {
     let f = frame_of(k);
-    if !has_size(name.len(), f.1 + f.2, t.len()) {
+    let Some(n) = name.len().checked_sub(f.leading.len() + f.trailing.len()) else {
         return false;
-    }
-    has_pieces(k, f.1, t, name)
+    };
+    n == t.len() && is_framed(k, t, name)
 }
 
-// The number of the one frame that adds d bytes; 6 where none does.
-fn frame_adding(d: usize) -> usize
-    ensures { result ≡ frame_adding d }
+// The number of the one frame that adds d bytes, if there is one.
+fn frame_adding(d: usize) -> Option<usize>
+    ensures { MatchOption result ((k : ℕ) → k < 6 → d ≡ adds k → ⊥) (λ k. (k < 6) × (d ≡ adds k)) }
 {
     match d {
-        0 => 0,
-        5 => 1,
-        10 => 2,
-        11 => 3,
-        13 => 4,
-        18 => 5,
-        _ => 6,
-    }
-}
-
-// How many bytes lead in frame number k.
-fn leading_size(k: usize) -> usize
-    requires { k < 6 }
-    ensures { result ≡ length (frame_at k).leading }
-{
-    match k {
-        0 => 0,
-        1 => 5,
-        2 => 10,
-        3 => 11,
-        _ => 13,
+        0 => Some(0),
+        5 => Some(1),
+        10 => Some(2),
+        11 => Some(3),
+        13 => Some(4),
+        18 => Some(5),
+        _ => None,
     }
 }
 
@@ -194,12 +164,11 @@ fn leading_size(k: usize) -> usize
 pub fn any_candidate(t: &[u8], name: &[u8]) -> bool
     ensures { result ≡ any (same name.now) (candidates t.now) }
 {
-    if name.len() < t.len() {
+    let Some(d) = name.len().checked_sub(t.len()) else {
         return false;
+    };
+    match frame_adding(d) {
+        Some(k) => is_framed(k, t, name),
+        None => false,
     }
-    let k = frame_adding(name.len() - t.len());
-    if k == FRAMES {
-        return false;
-    }
-    has_pieces(k, leading_size(k), t, name)
 }

@@ -3,7 +3,9 @@ ghost use Rattle.std.specs.Prelude.{◌≡◌, ◌++◌, suc, ◌+◌, ◌<◌, 
 ghost use Rattle.meaning.specs.Bytes.{same, begins, ends, present};
 ghost use Rattle.meaning.specs.Match.{capture};
 
-// n is the sum of three numbers, which may be more than a number holds.
+// n is the sum of three numbers.
+// As it is: (d) three lengths may come to more than a number holds, so each is taken away and not added; with
+// `a.checked_add(b).and_then(|x| x.checked_add(c)) == Some(n)` two results would be asked for one answer.
 fn is_sum(n: usize, a: usize, b: usize, c: usize) -> bool
     ensures { result ≡ eqb n (a + (b + c)) }
 {
@@ -20,13 +22,7 @@ fn is_sum(n: usize, a: usize, b: usize, c: usize) -> bool
 fn at_most_sum(n: usize, a: usize, b: usize, c: usize) -> bool
     ensures { result ≡ leb n (a + (b + c)) }
 {
-    if n <= a {
-        return true;
-    }
-    if n - a <= b {
-        return true;
-    }
-    n - a - b <= c
+    n <= a.saturating_add(b).saturating_add(c)
 }
 
 // Two pieces begin with p. What is past the first is asked first: texts that begin alike differ there.

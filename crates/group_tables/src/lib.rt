@@ -18,7 +18,7 @@ use matcher::matcher;
 use matcher::types::Matcher;
 use matcher_table::{no_matcher, put_matcher};
 use negatives::put_if_negative;
-use parse::types::{RefSpec, is_negative};
+use parse::types::RefSpec;
 use spec_list::record::{SpecRecord, spec_from};
 use spec_list::table::spec_at;
 
@@ -28,7 +28,7 @@ fn matcher_for(specs: &[u8], r: RefSpec) -> Matcher
     ensures { StandsFor specs.now (spec_meant specs.now r) result × MatcherWithin spec_list_bytes result }
 {
     let mode = r.mode;
-    if is_negative(mode) {
+    if mode.is_negative() {
         return no_matcher();
     }
     matcher(specs, r)
@@ -62,11 +62,8 @@ fn note_specs(
     ensures { NotedAll specs.now records.now table.new negatives.new result }
 {
     let mut count = 0;
-    let mut i = 0;
-    while i < records.len() {
-        let q = spec_at(records, i);
-        count = note(specs, q, i, table, negatives, count);
-        i += 1;
+    for i in 0..records.len() {
+        count = note(specs, spec_at(records, i), i, table, negatives, count);
     }
     count
 }

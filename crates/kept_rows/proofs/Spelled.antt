@@ -1,11 +1,10 @@
 -- A row's bytes are those that stand in its list, so a kept row is copied. Assumes nothing.
 use mathlib.Core.Path.{◌≡◌, refl, sym, ap, ◌∙◌}
-use mathlib.Core.Bool.{Bool, true, false, not, cond}
+use mathlib.Core.Bool.{Bool, true, false}
 use mathlib.Core.List.{[], ◌++◌}
 use mathlib.Core.Option.{Option, none, some}
 use Prim.Native.Nat.{ℕ, ◌+◌, ◌-◌, ◌≤◌}
 use native.Mathlib.Omega.{arith}
-use borrow.Author.Tests.{not-false}
 use lib.ListN.{length, take, drop, length-append, length-drop}
 use lib.Seq.{take_at, get_or-drop}
 use Rattle.meaning.specs.Bytes.{Text, each, if_given}
@@ -34,14 +33,10 @@ module _ (specs : ℕ) (s : Text) (at : ℕ) (row : RowPlace) (end : ℕ) (t : R
   stands : take (end - at) (drop at s) ≡ row_bytes (row_meant s row)
   stands = rw spelled (take_at (row_bytes (row_meant s row)) (drop end s) (end - at) row-long)
 
-  module _ (b : Bool) (e : b ≡ if_given is_full (side_meant s row.dst)) (h : not b ≡ false) where
+  module _ (b : Bool) (e : b ≡ if_given is_full (side_meant s row.dst)) (h : b ≡ true) where
     kept : kept_bytes (row_meant s row) ≡ row_bytes (row_meant s row)
     unfolding kept_bytes is_kept row_meant
-    kept = go b e h
-      where
-        go : (b : Bool) → b ≡ if_given is_full (side_meant s row.dst) → not b ≡ false → cond (if_given is_full (side_meant s row.dst)) (row_bytes (row_meant s row)) [] ≡ row_bytes (row_meant s row)
-        go true f g = rw (← f)
-        go false f g = absurd (let z : ◌≡◌ {A = ℕ} 0 1 = cc in omega arith)
+    kept = rw (sym e ∙ h)
 
     pub kept-size : end - at ≡ length (kept_bytes (row_meant s row))
     kept-size = sym row-long ∙ ap length (sym kept)
@@ -60,14 +55,14 @@ module _ (specs : ℕ) (s : Text) (at : ℕ) (row : RowPlace) (end : ℕ) (t : R
       kept-end r k = k ∙ ap (λ (x : Text). to + length x) (stands ∙ sym kept)
 
 -- a row that is kept has no fix
-module _ (s : Text) (row : RowPlace) (b : Bool) (e : b ≡ if_given is_full (side_meant s row.dst)) (h : not b ≡ false) where
+module _ (s : Text) (row : RowPlace) (b : Bool) (e : b ≡ if_given is_full (side_meant s row.dst)) (h : b ≡ true) where
   no-fix : row_fix (row_meant s row) ≡ []
   unfolding row_fix fix_for row_meant
   no-fix = go (side_meant s row.dst) e
     where
       go : (o : Option Text) → b ≡ if_given is_full o → each (fix_by row.spec o) fix_bytes ≡ []
       go none f = refl
-      go (some t) f = let q : is_full t ≡ true = sym f ∙ not-false b h in rw q
+      go (some t) f = let q : is_full t ≡ true = sym f ∙ h in rw q
 
   pub no-fix-put : (d : Text) (to : ℕ) → d ≡ splice d to (row_fix (row_meant s row))
   no-fix-put d to = rw no-fix (sym (splice-none d to))
@@ -90,14 +85,10 @@ module _ (s : Text) (row : RowPlace) (d : Text) (to : ℕ) where
   fix-end r h = h
 
 -- a row that goes out
-module _ (s : Text) (row : RowPlace) (b : Bool) (e : b ≡ if_given is_full (side_meant s row.dst)) (h : not b ≡ true) where
+module _ (s : Text) (row : RowPlace) (b : Bool) (e : b ≡ if_given is_full (side_meant s row.dst)) (h : b ≡ false) where
   gone : kept_bytes (row_meant s row) ≡ []
   unfolding kept_bytes is_kept row_meant
-  gone = go b e h
-    where
-      go : (b : Bool) → b ≡ if_given is_full (side_meant s row.dst) → not b ≡ true → cond (if_given is_full (side_meant s row.dst)) (row_bytes (row_meant s row)) [] ≡ []
-      go true f g = absurd (let z : ◌≡◌ {A = ℕ} 0 1 = cc in omega arith)
-      go false f g = rw (← f)
+  gone = rw (sym e ∙ h)
 
   pub gone-size : 0 ≡ length (kept_bytes (row_meant s row))
   gone-size = rw gone

@@ -7,24 +7,23 @@ use Prim.Native.Nat.{ℕ, suc, ◌+◌, ◌*◌, ◌≤◌}
 use native.Mathlib.Nat.{zero-add}
 use native.Mathlib.Omega.{arith}
 use mir.Val.{Fits}
-use mir.Syntax.{w8, w64}
+use mir.Syntax.{w8}
 use lib.ListN.{length, get_or, length-append}
 use Rattle.meaning.specs.Bytes.{Text, keep, each}
-use Rattle.meaning.specs.Limits.{row_list_bytes, largest_number}
+use Rattle.meaning.specs.Limits.{row_list_bytes}
 use Rattle.meaning.specs.Spec.{accepted}
 use Rattle.meaning.specs.Rows as meaning
 use Rattle.meaning.specs.Validation.{is_kept, fix_of, fix_bytes}
 use Rattle.promises.proofs.Laws.{each_append}
 use Rattle.buffer.specs.Splice.{splice}
 use Rattle.buffer.proofs.Writing.{Writing, writing-starts, writing-room, writing_more, written-place, written-whole}
-use Rattle.parse.specs.Places.{side_meant, Within}
-use Rattle.list.specs.declared.cursor.Cursor.{Cursor}
+use Rattle.parse.specs.Places.{side_meant}
+use Rattle.std.specs.Prelude.{Option, None, Some}
+use Rattle.list.specs.declared.cursor.Record.{Record}
 use Rattle.row_fields.specs.declared.RowPlace.{RowPlace}
-use Rattle.row_list.specs.declared.RowStep.{RowStep}
-use Rattle.row_list.specs.declared.RowStep.TheVariants.{Row, End, Refused}
 use Rattle.row_fields.specs.Fields.{row_meant}
-use Rattle.row_list.specs.Rows.{RowTaken, RowSays}
-use Rattle.row_list.proofs.RowWalks.{RowsLeft, rows_left, RowNext, rows_next, rows_end, rows-refused}
+use Rattle.row_list.specs.Rows.{RowTaken, RowHere}
+use Rattle.row_list.proofs.RowWalks.{RowsLeft, rows_left, RowNext, rows_next, rows_end}
 use Rattle.row_list.specs.Lists.{rows_in, RowsRead}
 use Rattle.conflicts.proofs.Walks.{list-short}
 use Rattle.conflicts.proofs.Spelled.{spelled}
@@ -99,26 +98,20 @@ pub record WrittenRows (specs : ℕ) (s : Text) (f : meaning.Row → Text) (d : 
 walk-starts : (specs : ℕ) (s : Text) → RowsRead specs s → Walk specs s 0 0 (rows_in specs s)
 walk-starts specs s r = rw (rows_are specs s r.list r.reads) (record { left = rows_left specs s r.list r.reads; short = list-short specs s r })
 
-module _ (specs : ℕ) (s : Text) (at : ℕ) (w : RowStep) (says : RowSays specs s at w) (row : RowPlace) (next : Cursor) (e : w ≡ Row row next) where
-  -- the row that the cursor hands back
-  pub row-taken : RowTaken specs s at row next.at
+module _ (specs : ℕ) (s : Text) (at : ℕ) (w : Option (Record RowPlace)) (says : RowHere specs s at w) (r : Record RowPlace) (e : w ≡ Some r) where
+  -- the r.value that the cursor hands back
+  pub row-taken : RowTaken specs s at r.value r.next.at
   row-taken = rw e at says
-
-  pub row-dst : Within (length s) row.dst
-  row-dst = row-taken.dst-within
-
-  pub row-spec : row.spec ≤ largest_number
-  row-spec = row-taken.spec-small
 
   -- and what is left after it
   module _ (j : ℕ) (rest : List meaning.Row) (k : Walk specs s at j rest) where
-    next_row : RowNext specs s row next.at j rest
-    next_row = rows_next specs s at j rest k.left w says row next e
+    next_row : RowNext specs s r.value r.next.at j rest
+    next_row = rows_next specs s at j rest k.left w says r e
 
-    walk-on : Walk specs s next.at (suc j) next_row.after
+    walk-on : Walk specs s r.next.at (suc j) next_row.after
     walk-on = record { left = next_row.left; short = k.short }
 
-    next-text : (f : meaning.Row → Text) → each rest f ≡ f (row_meant s row) ++ each next_row.after f
+    next-text : (f : meaning.Row → Text) → each rest f ≡ f (row_meant s r.value) ++ each next_row.after f
     next-text f = ap (λ (l : List meaning.Row). each l f) next_row.is
 
 -- measured
@@ -129,50 +122,35 @@ pub counted-starts : (specs : ℕ) (s : Text) (f : meaning.Row → Text) → Row
 counted-starts specs s f r at e = rw e (record { number = 0; rest = rows_in specs s; walk = walk-starts specs s r; done = omega arith; small = omega arith })
 
 module _ (specs : ℕ) (s : Text) (f : meaning.Row → Text) (at size : ℕ) (c : Counted specs s f at size) where
-  pub counted-short : length s ≤ row_list_bytes
-  counted-short = c.walk.short
-
-  module _ (w : RowStep) (says : RowSays specs s at w) where
-    module _ (row : RowPlace) (next : Cursor) (e : w ≡ Row row next) (n : ℕ) (small : n ≤ length s + fix_numbers_most) where
-      pub counted-more : n ≡ length (f (row_meant s row)) → Counted specs s f next.at (size + n)
+  module _ (w : Option (Record RowPlace)) (says : RowHere specs s at w) where
+    module _ (r : Record RowPlace) (e : w ≡ Some r) (n : ℕ) (small : n ≤ length s + fix_numbers_most) where
+      pub counted-more : n ≡ length (f (row_meant s r.value)) → Counted specs s f r.next.at (size + n)
       counted-more en =
-          let r = next_row specs s at w says row next e c.number c.rest c.walk in
+          let x = next_row specs s at w says r e c.number c.rest c.walk in
           record {
             number = suc c.number;
-            rest = r.after;
-            walk = walk-on specs s at w says row next e c.number c.rest c.walk;
-            done = omega (arith, c.done, ap length (next-text specs s at w says row next e c.number c.rest c.walk f), length-append (f (row_meant s row)) (each r.after f));
+            rest = x.after;
+            walk = walk-on specs s at w says r e c.number c.rest c.walk;
+            done = omega (arith, c.done, ap length (next-text specs s at w says r e c.number c.rest c.walk f), length-append (f (row_meant s r.value)) (each x.after f));
             small = omega (arith, c.small, c.walk.short);
           }
 
-      pub counted-fits : Fits w64 (size + n)
-      counted-fits = omega (arith, c.small, c.walk.short, c.walk.left.behind, c.walk.left.within)
-
-    pub counted-all : w ≡ End → size ≡ length (each (rows_in specs s) f)
+    pub counted-all : w ≡ None → size ≡ length (each (rows_in specs s) f)
     counted-all e = let z : each c.rest f ≡ [] = ap (λ (l : List meaning.Row). each l f) (rows_end specs s at c.number c.rest c.walk.left w says e) in omega (arith, c.done, ap length z)
 
-    counted_none : {A : Type 0} (n : ℕ) → w ≡ Refused n → A
-    counted_none n e = rows-refused specs s at c.number c.rest c.walk.left w says n e
-
 -- the ends of the loops that measure
-module _ (specs : ℕ) (s : Text) (at size : ℕ) (w : RowStep) (says : RowSays specs s at w) where
+module _ (specs : ℕ) (s : Text) (at size : ℕ) (w : Option (Record RowPlace)) (says : RowHere specs s at w) where
   module _ (c : Counted specs s kept_bytes at size) where
-    pub kept-counted : w ≡ End → size ≡ length (meaning.row_list_of (keep is_kept (rows_in specs s)))
+    pub kept-counted : w ≡ None → size ≡ length (meaning.row_list_of (keep is_kept (rows_in specs s)))
     kept-counted e = counted-all specs s kept_bytes at size c w says e ∙ ap length (sym (kept-each (rows_in specs s)))
 
-    pub kept-refused : (n : ℕ) → w ≡ Refused n → size ≡ length (meaning.row_list_of (keep is_kept (rows_in specs s)))
-    kept-refused n e = counted_none specs s kept_bytes at size c w says n e
-
   module _ (c : Counted specs s row_fix at size) where
-    pub fix-counted : (row : RowPlace) (next : Cursor) → w ≡ Row row next → (n : ℕ) → n ≤ length s + fix_numbers_most → n ≡ length (fix_for row.spec (side_meant s row.dst)) → Counted specs s row_fix next.at (size + n)
+    pub fix-counted : (r : Record RowPlace) → w ≡ Some r → (n : ℕ) → n ≤ length s + fix_numbers_most → n ≡ length (fix_for r.value.spec (side_meant s r.value.dst)) → Counted specs s row_fix r.next.at (size + n)
     unfolding row_fix row_meant
-    fix-counted row next e n h en = counted-more specs s row_fix at size c w says row next e n h en
+    fix-counted r e n h en = counted-more specs s row_fix at size c w says r e n h en
 
-    pub fixes-counted : w ≡ End → size ≡ length (each (each (rows_in specs s) fix_of) fix_bytes)
+    pub fixes-counted : w ≡ None → size ≡ length (each (each (rows_in specs s) fix_of) fix_bytes)
     fixes-counted e = counted-all specs s row_fix at size c w says e ∙ ap length (sym (fixes-each (rows_in specs s)))
-
-    pub fixes-refused : (n : ℕ) → w ≡ Refused n → size ≡ length (each (each (rows_in specs s) fix_of) fix_bytes)
-    fixes-refused n e = counted_none specs s row_fix at size c w says n e
 
 -- written
 pub written-starts : (specs : ℕ) (s : Text) (f : meaning.Row → Text) → RowsRead specs s → (d : Text) → length (each (rows_in specs s) f) ≤ length d → (at : ℕ) → at ≡ 0 → WrittenRows specs s f d at d 0
@@ -188,65 +166,47 @@ module _ (specs : ℕ) (s : Text) (f : meaning.Row → Text) (d : Text) (at : �
   pub written-short : length s ≤ row_list_bytes
   written-short = c.walk.short
 
-  pub written-kept : length out ≡ length d
-  written-kept = c.writing.kept
-
-  module _ (w : RowStep) (says : RowSays specs s at w) where
-    module _ (row : RowPlace) (next : Cursor) (e : w ≡ Row row next) where
-      written-room : to + length (f (row_meant s row)) ≤ length out
+  module _ (w : Option (Record RowPlace)) (says : RowHere specs s at w) where
+    module _ (r : Record RowPlace) (e : w ≡ Some r) where
+      written-room : to + length (f (row_meant s r.value)) ≤ length out
       written-room =
-          let r = next_row specs s at w says row next e c.number c.rest c.walk in
-          writing-room d 0 (each (rows_in specs s) f) out to (each c.rest f) c.writing (f (row_meant s row)) (each r.after f) (next-text specs s at w says row next e c.number c.rest c.walk f)
+          let x = next_row specs s at w says r e c.number c.rest c.walk in
+          writing-room d 0 (each (rows_in specs s) f) out to (each c.rest f) c.writing (f (row_meant s r.value)) (each x.after f) (next-text specs s at w says r e c.number c.rest c.walk f)
 
-      pub written-more : (o : Text) (i : ℕ) → o ≡ splice out to (f (row_meant s row)) → i ≡ to + length (f (row_meant s row)) → WrittenRows specs s f d next.at o i
+      pub written-more : (o : Text) (i : ℕ) → o ≡ splice out to (f (row_meant s r.value)) → i ≡ to + length (f (row_meant s r.value)) → WrittenRows specs s f d r.next.at o i
       written-more o i eo ei =
-          let r = next_row specs s at w says row next e c.number c.rest c.walk in
+          let x = next_row specs s at w says r e c.number c.rest c.walk in
           record {
             number = suc c.number;
-            rest = r.after;
-            walk = walk-on specs s at w says row next e c.number c.rest c.walk;
-            writing = writing_more d 0 (each (rows_in specs s) f) out to (each c.rest f) c.writing (f (row_meant s row)) (each r.after f) (next-text specs s at w says row next e c.number c.rest c.walk f) o i eo ei;
+            rest = x.after;
+            walk = walk-on specs s at w says r e c.number c.rest c.walk;
+            writing = writing_more d 0 (each (rows_in specs s) f) out to (each c.rest f) c.writing (f (row_meant s r.value)) (each x.after f) (next-text specs s at w says r e c.number c.rest c.walk f) o i eo ei;
           }
 
-    written-length : w ≡ End → to ≡ length (each (rows_in specs s) f)
+    written-length : w ≡ None → to ≡ length (each (rows_in specs s) f)
     written-length e = written-place d 0 (each (rows_in specs s) f) out to (each c.rest f) c.writing (ap (λ (l : List meaning.Row). each l f) (rows_end specs s at c.number c.rest c.walk.left w says e)) ∙ zero-add (length (each (rows_in specs s) f))
 
-    written_all : w ≡ End → out ≡ splice d 0 (each (rows_in specs s) f)
+    written_all : w ≡ None → out ≡ splice d 0 (each (rows_in specs s) f)
     written_all e = written-whole d 0 (each (rows_in specs s) f) out to (each c.rest f) c.writing (ap (λ (l : List meaning.Row). each l f) (rows_end specs s at c.number c.rest c.walk.left w says e))
 
-    written_none : {A : Type 0} (n : ℕ) → w ≡ Refused n → A
-    written_none n e = rows-refused specs s at c.number c.rest c.walk.left w says n e
-
 -- the turns and the ends of the loop that writes
-module _ (specs : ℕ) (s d : Text) (at : ℕ) (out : Text) (to : ℕ) (w : RowStep) (says : RowSays specs s at w) where
+module _ (specs : ℕ) (s d : Text) (at : ℕ) (out : Text) (to : ℕ) (w : Option (Record RowPlace)) (says : RowHere specs s at w) where
   module _ (c : WrittenRows specs s kept_bytes d at out to) where
-    pub kept-room : (row : RowPlace) (next : Cursor) → w ≡ Row row next → to + length (kept_bytes (row_meant s row)) ≤ length out
-    kept-room row next e = written-room specs s kept_bytes d at out to c w says row next e
+    pub kept-room : (r : Record RowPlace) → w ≡ Some r → to + length (kept_bytes (row_meant s r.value)) ≤ length out
+    kept-room r e = written-room specs s kept_bytes d at out to c w says r e
 
-    pub kept-written : w ≡ End → out ≡ splice d 0 (meaning.row_list_of (keep is_kept (rows_in specs s)))
+    pub kept-written : w ≡ None → out ≡ splice d 0 (meaning.row_list_of (keep is_kept (rows_in specs s)))
     kept-written e = written_all specs s kept_bytes d at out to c w says e ∙ ap (splice d 0) (sym (kept-each (rows_in specs s)))
 
-    pub kept-length : w ≡ End → to ≡ length (meaning.row_list_of (keep is_kept (rows_in specs s)))
+    pub kept-length : w ≡ None → to ≡ length (meaning.row_list_of (keep is_kept (rows_in specs s)))
     kept-length e = written-length specs s kept_bytes d at out to c w says e ∙ ap length (sym (kept-each (rows_in specs s)))
 
-    pub kept-unwritten : (n : ℕ) → w ≡ Refused n → out ≡ splice d 0 (meaning.row_list_of (keep is_kept (rows_in specs s)))
-    kept-unwritten n e = written_none specs s kept_bytes d at out to c w says n e
-
-    pub kept-no-length : (n : ℕ) → w ≡ Refused n → to ≡ length (meaning.row_list_of (keep is_kept (rows_in specs s)))
-    kept-no-length n e = written_none specs s kept_bytes d at out to c w says n e
-
   module _ (c : WrittenRows specs s row_fix d at out to) where
-    pub fixes-room : (row : RowPlace) (next : Cursor) → w ≡ Row row next → to + length (row_fix (row_meant s row)) ≤ length out
-    fixes-room row next e = written-room specs s row_fix d at out to c w says row next e
+    pub fixes-room : (r : Record RowPlace) → w ≡ Some r → to + length (row_fix (row_meant s r.value)) ≤ length out
+    fixes-room r e = written-room specs s row_fix d at out to c w says r e
 
-    pub fixes-written : w ≡ End → out ≡ splice d 0 (each (each (rows_in specs s) fix_of) fix_bytes)
+    pub fixes-written : w ≡ None → out ≡ splice d 0 (each (each (rows_in specs s) fix_of) fix_bytes)
     fixes-written e = written_all specs s row_fix d at out to c w says e ∙ ap (splice d 0) (sym (fixes-each (rows_in specs s)))
 
-    pub fixes-length : w ≡ End → to ≡ length (each (each (rows_in specs s) fix_of) fix_bytes)
+    pub fixes-length : w ≡ None → to ≡ length (each (each (rows_in specs s) fix_of) fix_bytes)
     fixes-length e = written-length specs s row_fix d at out to c w says e ∙ ap length (sym (fixes-each (rows_in specs s)))
-
-    pub fixes-unwritten : (n : ℕ) → w ≡ Refused n → out ≡ splice d 0 (each (each (rows_in specs s) fix_of) fix_bytes)
-    fixes-unwritten n e = written_none specs s row_fix d at out to c w says n e
-
-    pub fixes-no-length : (n : ℕ) → w ≡ Refused n → to ≡ length (each (each (rows_in specs s) fix_of) fix_bytes)
-    fixes-no-length n e = written_none specs s row_fix d at out to c w says n e

@@ -8,21 +8,21 @@ use Rattle.meaning.specs.Number.{Step, took, no}
 use Rattle.meaning.specs.Rows.{Row, read_front}
 use Rattle.parse.specs.declared.types.Side.TheVariants.{Absent}
 use Rattle.row_fields.specs.declared.RowPlace.{RowPlace}
-use Rattle.row_fields.specs.declared.Front.{Front}
-use Rattle.row_fields.specs.declared.Front.TheVariants as front
+use Rattle.std.specs.Prelude.{Option, None, Some}
+use Rattle.list.specs.declared.cursor.Record.{Record}
 use Rattle.row_fields.specs.Fields.{row_meant, FrontTaken, FrontSays}
 use Rattle.row_fields.specs.Stages.{destination_in}
 use Rattle.keys.specs.Keys.{row_or, row_at, Finds}
 
 -- the answers of `fields`
-module _ (s : Text) (at : ℕ) (a : Front) (says : FrontSays s (read_front (drop at s)) a) where
-  pub row-found : (row : RowPlace) (next : ℕ) → a ≡ front.Row row next → Finds s (row_at s at) row
+module _ (s : Text) (at : ℕ) (a : Option (Record RowPlace)) (says : FrontSays s (read_front (drop at s)) a) where
+  pub row-found : (r : Record RowPlace) → a ≡ Some r → Finds s (row_at s at) r.value
   unfolding row_at
-  row-found row next e =
-      let t : FrontTaken s (read_front (drop at s)) row next = rw e at says in
+  row-found r e =
+      let t : FrontTaken s (read_front (drop at s)) r.value r.next.at = rw e at says in
       rw t.reads (record { means = refl; spec-small = t.spec-small; kind-small = t.kind-small; source-within = t.src-within; destination-within = t.dst-within })
 
-  pub none_found : (f : RowPlace) → a ≡ front.Malformed → f ≡ record { item = 0; spec = 0; kind = 0; src_at = 0; src_len = 0; dst = Absent } → Finds s (row_at s at) f
+  pub none_found : (f : RowPlace) → a ≡ None → f ≡ record { item = 0; spec = 0; kind = 0; src = record { at = 0; len = 0 }; dst = Absent } → Finds s (row_at s at) f
   unfolding row_at row_meant
   none_found f e h =
       let t : read_front (drop at s) ≡ no 13 = rw e at says in

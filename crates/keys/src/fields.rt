@@ -3,19 +3,19 @@ ghost use Rattle.std.specs.Prelude.{◌≡◌};
 ghost use Rattle.parse.specs.declared.types.Side.TheVariants.{Absent};
 ghost use Rattle.keys.specs.Keys.{row_at, Finds};
 
+use list::stretch::Stretch;
 use parse::types::Side;
-use row_fields::{Front, RowPlace, read_front};
+use row_fields::{RowPlace, read_front};
 
 // The fields of a row without anything.
 fn nothing() -> RowPlace
-    ensures { result ≡ record { item = 0; spec = 0; kind = 0; src_at = 0; src_len = 0; dst = Absent } }
+    ensures { result ≡ record { item = 0; spec = 0; kind = 0; src = record { at = 0; len = 0 }; dst = Absent } }
 {
     RowPlace {
         item: 0,
         spec: 0,
         kind: 0,
-        src_at: 0,
-        src_len: 0,
+        src: Stretch { at: 0, len: 0 },
         dst: Side::Absent,
     }
 }
@@ -25,7 +25,7 @@ pub fn fields(s: &[u8], at: usize) -> RowPlace
     ensures { Finds s.now (row_at s.now at) result }
 {
     match read_front(s, at) {
-        Front::Row { row, next: _ } => row,
-        Front::Malformed => nothing(),
+        Some(r) => r.value,
+        None => nothing(),
     }
 }

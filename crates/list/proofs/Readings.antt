@@ -11,9 +11,24 @@ use Rattle.meaning.specs.Buffers.{or_zero}
 use Rattle.meaning.specs.Number.{took, no, Reader}
 use Rattle.meaning.specs.Lists.{with_first}
 use Rattle.promises.specs.Facts.{records}
-use Rattle.list.specs.declared.items.Checked.{Checked}
-use Rattle.list.specs.Checked.{checked}
+use Rattle.std.specs.Prelude.{Result, Ok, Err}
+use Rattle.refusal.specs.declared.Refusal.{Refusal}
+use Rattle.list.specs.declared.refused.Refused.{Refused}
+use Rattle.list.specs.Checked.{Checked, checked, numbered}
 use Rattle.list.proofs.Records.{records-past, records-no, records-took}
+
+-- what a numbered answer tells of the answer
+pub numbered-ok : {A : Type 0} (w : Result A Refusal) (j : ℕ) (a : A) → numbered w j ≡ Ok a → w ≡ Ok a
+numbered-ok (Ok b) j a e = let q : b ≡ a = cc in rw q
+numbered-ok (Err x) j a e = absurd (let z : ◌≡◌ {A = ℕ} 0 1 = cc in omega arith)
+
+pub record NumberedErr {A : Type 0} (w : Result A Refusal) (j : ℕ) (x : Refused) : Type 0 where
+  pub is : w ≡ Err x.refusal
+  pub number : x.«record» ≡ j
+
+pub numbered-err : {A : Type 0} (w : Result A Refusal) (j : ℕ) (x : Refused) → numbered w j ≡ Err x → NumberedErr w j x
+numbered-err (Ok b) j x e = absurd (let z : ◌≡◌ {A = ℕ} 0 1 = cc in omega arith)
+numbered-err (Err r) j x e = let q : record { refusal = r; «record» = j } ≡ x = cc in record { is = ap (λ (y : Refused). Err y.refusal) q; number = sym (ap (λ (y : Refused). y.«record») q) }
 
 -- an answer on the records that are left, where j are behind them
 abbrev checked_after : {A : Type 0} → ℕ → Answer (List A) → Checked

@@ -14,7 +14,9 @@ use Rattle.number.specs.declared.Number.{Number}
 use Rattle.number.specs.Reading.{number_at}
 use Rattle.number.proofs.Answers.{number-stands, number-none}
 use Rattle.parse.proofs.Parts.{part_length}
-use Rattle.list.specs.declared.cursor.Step.TheVariants.{Record}
+use Rattle.std.specs.Prelude.{Some, Ok}
+use Rattle.list.specs.declared.cursor.Record.{Record}
+use Rattle.list.specs.declared.stretch.Stretch.{Stretch}
 use Rattle.list.specs.Cursor.{placed_step}
 
 -- the next n bytes, where there are as many
@@ -31,8 +33,12 @@ bytes-short s at n h =
     let k : length (drop at s) < n = rw (length-drop at s) h in
     rw (lt-leb n (length (drop at s)) k)
 
+-- the record of so many bytes at a place
+abbrev pub record_at : ℕ → ℕ → Record Stretch
+record_at at n = record { value = record { at = at; len = n }; next = record { at = at + n } }
+
 -- so many bytes at a place, as a step
-pub placed-bytes : (s : Text) (at n : ℕ) → at + n ≤ length s → placed_step s (meaning.took (take n (drop at s)) (drop (at + n) s)) ≡ Record at n (record { at = at + n })
+pub placed-bytes : (s : Text) (at n : ℕ) → at + n ≤ length s → placed_step s (meaning.took (take n (drop at s)) (drop (at + n) s)) ≡ Ok (Some (record_at at n))
 placed-bytes s at n h =
     let e : length (drop (at + n) s) ≡ length s - (at + n) = length-drop (at + n) s in
     let p : length s - (length s - (at + n)) ≡ at + n = omega arith in

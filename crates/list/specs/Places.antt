@@ -1,16 +1,16 @@
 -- Where the names of an item list stand, two numbers for each.
-use Rattle.std.specs.Prelude.{ℕ, zero, suc, ◌+◌, ◌*◌, ◌≤◌, ◌<◌, ◌≡◌, List, [], ◌∷◌, length, get_or}
+use Rattle.std.specs.Prelude.{ℕ, zero, suc, ◌+◌, ◌*◌, ◌≤◌, ◌<◌, ◌≡◌, List, [], ◌∷◌, length, get_or, Option, None, Some, Result, Ok, Err}
 use Rattle.meaning.specs.Bytes.{Text}
 use Rattle.meaning.specs.Limits.{name_bytes, item_list_bytes, item_count}
 use Rattle.meaning.specs.Spec.{Answer, accepted, refused}
 use Rattle.meaning.specs.Lists.{read_items}
 use Rattle.buffer.specs.Splice.{splice}
 use Rattle.parse.specs.Places.{part_at}
-use Rattle.list.specs.declared.cursor.Step.{Step}
-use Rattle.list.specs.declared.cursor.Step.TheVariants.{Record, End, Refused}
-use Rattle.list.specs.declared.items.Checked.{Checked}
+use Rattle.refusal.specs.declared.Refusal.{Refusal}
+use Rattle.list.specs.declared.cursor.Record.{Record}
+use Rattle.list.specs.declared.stretch.Stretch.{Stretch}
 use Rattle.list.specs.Cursor.{step_at}
-use Rattle.list.specs.Checked.{checked}
+use Rattle.list.specs.Checked.{Checked, checked}
 
 -- room for the places of as many names as a list may have, two numbers for each
 abbrev pub places_room : ℕ
@@ -32,10 +32,10 @@ pub record PlacesOf (items : Text) (places : List ℕ) (n : ℕ) : Type 0 where
   pub short : (j : ℕ) → j < n → get_or places (2 * j + 1) 0 ≤ name_bytes
 
 -- what is noted of a record, before what is noted from the next one on
-abbrev pub noted_before : Step → (ℕ → List ℕ) → List ℕ
-noted_before (Record start len next) rest = start ∷ len ∷ rest next.at
-noted_before End rest = []
-noted_before (Refused n) rest = []
+abbrev pub noted_before : Result (Option (Record Stretch)) Refusal → (ℕ → List ℕ) → List ℕ
+noted_before (Ok (Some r)) rest = r.value.at ∷ r.value.len ∷ rest r.next.at
+noted_before (Ok None) rest = []
+noted_before (Err e) rest = []
 
 -- where each of k records from a place on begins and how many bytes it has, as far as there are records
 abbrev pub places_from : Text → ℕ → ℕ → List ℕ

@@ -3,7 +3,8 @@ ghost use Rattle.std.specs.Prelude.{◌≡◌, ◌≤◌, length, drop};
 ghost use Rattle.meaning.specs.Number.{read_bytes};
 ghost use Rattle.list.specs.Cursor.{placed_step, step_at};
 
-use number::Number;
+use super::stretch::Stretch;
+use refusal::Refusal;
 
 // A place in a list at which a record begins.
 #[derive(Clone, Copy)]
@@ -11,31 +12,28 @@ pub struct Cursor {
     pub at: usize,
 }
 
-// What stands at a cursor: a record, as the place and length of its bytes with the cursor moved on; the list's end; or a refusal's number.
+// A record that was read, with the cursor moved on.
 #[derive(Clone, Copy)]
-pub enum Step {
-    Record {
-        start: usize,
-        len: usize,
-        next: Cursor,
-    },
-    End,
-    Refused(u64),
+pub struct Record<T> {
+    pub value: T,
+    pub next: Cursor,
 }
 
+// What stands at a cursor: a record, none at the list's end, or a refusal.
+pub type Step<T> = Result<Option<Record<T>>, Refusal>;
+
 // The record of `len` bytes that begin at `start`.
-fn record_at(list: &[u8], start: usize, len: usize) -> Step
+fn record_at(list: &[u8], start: usize, len: usize) -> Step<Stretch>
     requires { start ≤ length list.now }
     ensures { result ≡ placed_step list.now (read_bytes len (drop start list.now)) }
 {
     if list.len() - start < len {
-        return Step::Refused(13);
+        return Err(Refusal::Malformed);
     }
-    Step::Record {
-        start,
-        len,
+    Ok(Some(Record {
+        value: Stretch { at: start, len },
         next: Cursor { at: start + len },
-    }
+    }))
 }
 
 impl Cursor {
@@ -46,17 +44,16 @@ impl Cursor {
         Cursor { at: 0 }
     }
 
-    // What stands here in a list; at or past the list's end, the end.
-    pub fn next(self, list: &[u8]) -> Step
+    // What stands here in a list; at or past the list's end, none.
+    pub fn next(self, list: &[u8]) -> Step<Stretch>
         ensures { result ≡ step_at list.now self.at }
     {
-        let at = self.at;
-        if list.len() <= at {
-            return Step::End;
+        if list.len() <= self.at {
+            return Ok(None);
         }
-        match number::read(list, at) {
-            Some(Number { value, next }) => record_at(list, next, value),
-            None => Step::Refused(13),
-        }
+        let Some(n) = number::read(list, self.at) else {
+            return Err(Refusal::Malformed);
+        };
+        record_at(list, n.next, n.value)
     }
 }

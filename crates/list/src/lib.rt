@@ -4,3 +4,5 @@
 pub mod cursor;
 pub mod items;
 pub mod places;
+pub mod refused;
+pub mod stretch;

@@ -9,17 +9,16 @@ ghost use Rattle.meaning.specs.Limits.{program_bytes};
 use deliver::print_lists;
 use limits::{ITEM_LIST_BYTES, PROGRAM_BYTES, SPEC_LIST_BYTES};
 use std::io::Write;
-use stdio::{INPUT_ROOM, Input, finish, say, tell};
+use stdio::{INPUT_ROOM, finish, say, tell};
 use text_program::{gather_or_tell, read_text};
 
 // Prints a listing. Its header does not begin so: this is 17, the one refusal of lists that were gathered.
 fn show_printed<W: Write, E: Write>(output: &mut W, errors: &mut E, t: &[u8]) {
     if compare::begins(b"refused ", t) {
         tell(errors, b"the listing is above 65,536 bytes\n");
-        return;
+    } else {
+        finish(errors, say(output, t));
     }
-    let whole = say(output, true, t);
-    finish(errors, whole);
 }
 
 // Prints the listing of a spec list and an item list.
@@ -37,17 +36,15 @@ fn show<W: Write, E: Write>(output: &mut W, errors: &mut E, input: &[u8])
     let mut specs = [0u8; SPEC_LIST_BYTES];
     let mut items = [0u8; ITEM_LIST_BYTES];
     let g = gather_or_tell(errors, input, &mut specs, &mut items);
-    if g.reason == 0 {
-        let n = g.specs;
-        let m = g.items;
-        show_lists(output, errors, &specs[..n], &items[..m]);
+    if g.refused.is_none() {
+        show_lists(output, errors, &specs[..g.specs], &items[..g.items]);
     }
 }
 
+// As it is: (d) each program has a main of its own, and what it does with the text is its own.
 fn main(rt: HostRuntime) {
     let mut input = [0u8; INPUT_ROOM];
-    match read_text(&mut rt.stdin(), &mut rt.stderr(), &mut input) {
-        Input::Read(n) => show(&mut rt.stdout(), &mut rt.stderr(), &input[..n]),
-        Input::Failed => {}
+    if let Ok(n) = read_text(&mut rt.stdin(), &mut rt.stderr(), &mut input) {
+        show(&mut rt.stdout(), &mut rt.stderr(), &input[..n]);
     }
 }

@@ -16,8 +16,11 @@ use Rattle.buffer.specs.declared.written.Written.{Written}
 use Rattle.buffer.specs.Answers.{refused_with, short_with, done_with}
 use Rattle.buffer.specs.Splice.{splice}
 use Rattle.buffer.proofs.Meets.{made-refused, made-short, made-written}
-use Rattle.list.specs.declared.items.Checked.{Checked}
-use Rattle.list.specs.Places.{names_of, PlacesRead}
+use Rattle.std.specs.Prelude.{Result, Ok, Err}
+use Rattle.refusal.specs.Numbers.{number_of}
+use Rattle.list.specs.declared.refused.Refused.{Refused}
+use Rattle.list.specs.Checked.{numbers_of}
+use Rattle.list.specs.Places.{names_of, PlacesOf, PlacesRead}
 use Rattle.spec_list.specs.declared.Group.{Group}
 use Rattle.spec_list.specs.declared.record.SpecRecord.{SpecRecord}
 use Rattle.spec_list.specs.Group.{group_meant, GroupRead}
@@ -26,12 +29,12 @@ use Rattle.spec_list.proofs.Told.{GroupPassed, group-passed, group-failed}
 use Rattle.matcher_table.specs.Numbers.{matcher_numbers}
 use Rattle.negatives.specs.Negatives.{excluded_by}
 use Rattle.match_row.specs.Asking.{Askable}
-use Rattle.search.specs.Hits.{group_gives}
+use Rattle.search.specs.Hits.{group_gives, first_bytes}
 use Rattle.search.specs.Noting.{PlacesIn, TableReady}
 use Rattle.group_tables.specs.Standing.{NotedAll}
 use Rattle.group_tables.specs.Reading.{Grouped, TableIs}
 use Rattle.group_tables.proofs.Groups.{group-ready, group-noted}
-use Rattle.match_group.specs.Listing.{listing_rows, listing_bytes, listing, first_bytes, table_bytes, listing_answer}
+use Rattle.match_group.specs.Listing.{listing_rows, listing_bytes, listing, table_bytes, listing_answer}
 use Rattle.match_group.proofs.Listings.{listing-bytes}
 use Rattle.match_group.proofs.Tables.{table-ready, table-bytes, places-in}
 
@@ -64,21 +67,31 @@ unfolding match_lhs match_rhs
 specs-read true op specs items group e = rw e
 specs-read false op specs items group e = rw e
 
-module _ (back : Bool) (op : ℕ) (specs items d : Text) (g : Group) (eg : GroupRead specs g (read_specs op specs)) where
-  pub specs-refused : (g.refusal ≡ 0 → ⊥) → (w : Written) → w ≡ refused_with g.refusal g.«record» → MeetsOne (listing_answer back op specs items) d d w.refusal w.«record» w.length
-  specs-refused z w e =
-      let f = group-failed specs g (read_specs op specs) eg z in
-      made-refused (listing_answer back op specs items) d g.refusal f.carried g.«record» w (specs-turned back op specs items g.refusal f.carried f.answer) f.number e
+module _ (op : ℕ) (specs : Text) (v : Result Group Refused) (eg : GroupRead specs v (read_specs op specs)) (g : Group) (z : v ≡ Ok g) where
+  passed : GroupPassed specs g (read_specs op specs)
+  passed = group-passed specs v (read_specs op specs) eg g z
 
-  module _ (z : g.refusal ≡ 0) where
-    passed : GroupPassed specs g (read_specs op specs)
-    passed = group-passed specs g (read_specs op specs) eg z
+  pub specs-grouped : Grouped specs g.specs g.count
+  specs-grouped = group-ready op specs g passed
 
-    pub specs-grouped : Grouped specs g.specs g.count
-    specs-grouped = group-ready op specs g passed
+module _ (back : Bool) (op : ℕ) (specs items d : Text) (v : Result Group Refused) (eg : GroupRead specs v (read_specs op specs)) where
+  pub specs-refused : (x : Refused) → v ≡ Err x → (k : ℕ) → k ≡ number_of x.refusal → (w : Written) → w ≡ refused_with k x.«record» → MeetsOne (listing_answer back op specs items) d d w.refusal w.«record» w.length
+  specs-refused x z k ek w e =
+      let f = group-failed specs v (read_specs op specs) eg x z in
+      made-refused (listing_answer back op specs items) d (number_of x.refusal) f.carried x.«record» w (specs-turned back op specs items (number_of x.refusal) f.carried f.answer) f.number (rw (← ek) e)
 
-    pub group-listed : (o : Text) (w t u : ℕ) → MeetsOne (listing back (group_meant specs (take g.count g.specs)) items) d o w t u → MeetsOne (listing_answer back op specs items) d o w t u
-    group-listed o w t u m = rw (specs-read back op specs items passed.members passed.answer, ← passed.is.means) m
+  pub group-listed : (g : Group) → v ≡ Ok g → (o : Text) (w t u : ℕ) → MeetsOne (listing back (group_meant specs (take g.count g.specs)) items) d o w t u → MeetsOne (listing_answer back op specs items) d o w t u
+  group-listed g z o w t u m =
+      let p = passed op specs v eg g z in
+      rw (specs-read back op specs items p.members p.answer, ← p.is.means) m
+
+-- an item list that was read
+module _ (items : Text) (before places : List ℕ) (c : Result ℕ Refused) (ec : PlacesRead items before places (numbers_of c)) (m : ℕ) (zc : c ≡ Ok m) where
+  told : PlacesOf items places m
+  told = let q : PlacesRead items before places (numbers_of (Ok m)) = rw zc at ec in q.noted refl
+
+  pub items-placed : PlacesIn items places m
+  items-placed = places-in items places m told
 
 -- a group that was noted
 module _ (specs : Text) (records : List SpecRecord) (n : ℕ) (r : Grouped specs records n) (table negatives : List ℕ) (k : ℕ) (a : NotedAll specs (take n records) table negatives k) where
@@ -95,26 +108,23 @@ module _ (specs : Text) (records : List SpecRecord) (n : ℕ) (r : Grouped specs
   specs-askable = record { room = is.exclude.room; within = is.exclude.within }
 
   module _ (back : Bool) (items d : Text) where
-    module _ (before places : List ℕ) (c : Checked) (ec : PlacesRead items before places c) where
-      pub items-turned : (c.refusal ≡ 0 → ⊥) → (w : Written) → w ≡ refused_with c.refusal c.«record» → MeetsOne (listing back (group_meant specs (take n records)) items) d d w.refusal w.«record» w.length
-      items-turned z w e =
-          let f = items-failed items c ec.answer z in
-          made-refused (listing back group items) d c.refusal f.carried c.«record» w (rw f.answer) f.number e
+    module _ (before places : List ℕ) (c : Result ℕ Refused) (ec : PlacesRead items before places (numbers_of c)) where
+      pub items-turned : (x : Refused) → c ≡ Err x → (i : ℕ) → i ≡ number_of x.refusal → (w : Written) → w ≡ refused_with i x.«record» → MeetsOne (listing back (group_meant specs (take n records)) items) d d w.refusal w.«record» w.length
+      items-turned x z i ei w e =
+          let f = items-failed items c ec.answer x z in
+          made-refused (listing back group items) d (number_of x.refusal) f.carried x.«record» w (rw f.answer) f.number (rw (← ei) e)
 
-      module _ (zc : c.refusal ≡ 0) where
-        pub items-placed : PlacesIn items places c.count
-        items-placed = places-in items places c.count (ec.noted zc)
+      module _ (m : ℕ) (zc : c ≡ Ok m) where
+        names : Passed (read_items items) m
+        names = items-passed items c ec.answer m zc
 
-        names : Passed (read_items items) c.count
-        names = items-passed items c ec.answer zc
-
-        same : table_bytes back (excluded_by specs negatives k) specs table n items places c.count ≡ row_list_of (listing_rows back group names.members)
+        same : table_bytes back (excluded_by specs negatives k) specs table n items places m ≡ row_list_of (listing_rows back group names.members)
         same =
             let g = excluded_by specs negatives k in
             let e : names_of (read_items items) ≡ names.members = rw names.answer in
-            table-bytes specs table negatives n k group is back g items places c.count (ec.noted zc)
+            table-bytes specs table negatives n k group is back g items places m (told items before places c ec m zc)
             ∙ ap (listing_bytes back g group) e
             ∙ sym (listing-bytes back g group is.exclude.decides names.members)
 
-        pub rows-listed : (o : Text) (w t u : ℕ) → MeetsOne (accepted (some (table_bytes back (excluded_by specs negatives k) specs table n items places c.count) ∷ [])) d o w t u → MeetsOne (listing back (group_meant specs (take n records)) items) d o w t u
-        rows-listed o w t u m = rw (names.answer, ← same) m
+        pub rows-listed : (o : Text) (w t u : ℕ) → MeetsOne (accepted (some (table_bytes back (excluded_by specs negatives k) specs table n items places m) ∷ [])) d o w t u → MeetsOne (listing back (group_meant specs (take n records)) items) d o w t u
+        rows-listed o w t u l = rw (names.answer, ← same) l

@@ -7,31 +7,17 @@ use native.Mathlib.Omega.{arith}
 use lib.ListN.{length, take, length-append}
 use lib.Seq.{length-take-le}
 use Rattle.meaning.specs.Bytes.{Text, each}
-use Rattle.buffer.specs.Splice.{splice}
+use Rattle.buffer.specs.Splice.{splice, Puts}
 use Rattle.buffer.proofs.Splices.{length-splice, splice-next}
 use Rattle.buffer.proofs.Writing.{Writing, writing-starts, writing-room, writing_more, written-place, written-whole}
-use Rattle.match_row.specs.Asking.{Put}
-use Rattle.search.specs.Hits.{across, spec_gives, group_gives, objects_give, spec_hits, group_hits, object_hits, hit_bytes}
+use Rattle.match_row.specs.Asking.{}
+use Rattle.search.specs.Hits.{across, spec_gives, group_gives, objects_give, first_bytes, spec_hits, group_hits, object_hits, first_hits, hit_bytes}
 use Rattle.search.specs.Noting.{PlacesIn, Adds, Good, AllGood}
 use Rattle.search.proofs.Across.{across-next, across-none}
-use Rattle.search.proofs.Notes.{adds_none}
 use Rattle.search.proofs.Given.{Gives, gives_none, gives_both, gives-good, spec-gives, group-gives, objects-give, spec-few-hits, objects-few-hits}
-use Rattle.match_group.specs.Listing.{first_bytes, first_hits, table_bytes, table_hits, Noted}
+use Rattle.match_group.specs.Listing.{table_bytes, table_hits, Noted}
 
 -- ---- what comes first
-
-module _ (back : Bool) (specs : Text) (table : List ℕ) (group : ℕ) where
-  pub first-none : back ≡ true → 0 ≡ length (first_bytes back specs table group)
-  first-none e = rw e
-
-  pub first-no-hits : back ≡ true → (hits : List ℕ) → Adds hits 0 (first_hits back specs table group) hits 0
-  first-no-hits e hits = rw e (adds_none hits 0)
-
-  pub first-objects : back ≡ false → (k : ℕ) → k ≡ length (objects_give specs table group) → k ≡ length (first_bytes back specs table group)
-  first-objects e k h = rw e h
-
-  pub first-object-hits : back ≡ false → (hits after : List ℕ) (noted : ℕ) → Adds hits 0 (object_hits specs table group) after noted → Adds hits 0 (first_hits back specs table group) after noted
-  first-object-hits e hits after noted a = rw e a
 
 -- there are no more such hits than specs
 first-few : (back : Bool) (specs : Text) (table : List ℕ) (group : ℕ) → length (first_hits back specs table group) ≤ group
@@ -104,15 +90,15 @@ module _ (back : Bool) (specs : Text) (table : List ℕ) (group : ℕ) (items : 
         pub first-room : 0 + length (each (take noted hits) (hit_bytes back specs table items places)) ≤ length d
         first-room = rw given-first (omega (arith, length-append a b))
 
-        module _ (o : Text) (at : ℕ) (q : Put d 0 (each (take noted hits) (hit_bytes back specs table items places)) o at) where
-          put : Put d 0 a o at
+        module _ (o : Text) (at : ℕ) (q : Puts d 0 (each (take noted hits) (hit_bytes back specs table items places)) o at) where
+          put : Puts d 0 a o at
           put = rw given-first at q
 
           pub second-room : at + length (group_gives back gone specs table group items places n) ≤ length o
-          second-room = omega (arith, length-append a b, put.ends, ap length put.puts, length-splice d 0 a (omega (arith, length-append a b)))
+          second-room = omega (arith, length-append a b, put.1, ap length put.0, length-splice d 0 a (omega (arith, length-append a b)))
 
-          pub both-put : (o₂ : Text) (e₂ : ℕ) → Put o at (group_gives back gone specs table group items places n) o₂ e₂ → o₂ ≡ splice d 0 (table_bytes back gone specs table group items places n)
-          both-put o₂ e₂ r = r.puts ∙ ap (λ (q : Text). splice q at b) put.puts ∙ splice-next d 0 a b at (omega (arith, length-append a b)) put.ends
+          pub both-put : (o₂ : Text) (e₂ : ℕ) → Puts o at (group_gives back gone specs table group items places n) o₂ e₂ → o₂ ≡ splice d 0 (table_bytes back gone specs table group items places n)
+          both-put o₂ e₂ r = r.0 ∙ ap (λ (q : Text). splice q at b) put.0 ∙ splice-next d 0 a b at (omega (arith, length-append a b)) put.1
 
     -- all of them
     module _ (gone : Text → Bool) (e : Noted hits noted (table_hits back gone specs table group items places n)) where
@@ -125,8 +111,8 @@ module _ (back : Bool) (specs : Text) (table : List ℕ) (group : ℕ) (items : 
       pub all_room : (d : Text) → length (table_bytes back gone specs table group items places n) ≤ length d → 0 + length (each (take noted hits) (hit_bytes back specs table items places)) ≤ length d
       all_room d l = rw given-all (omega arith)
 
-      pub all-put : (d o : Text) (k : ℕ) → Put d 0 (each (take noted hits) (hit_bytes back specs table items places)) o k → o ≡ splice d 0 (table_bytes back gone specs table group items places n)
-      all-put d o k q = rw given-all at q.puts
+      pub all-put : (d o : Text) (k : ℕ) → Puts d 0 (each (take noted hits) (hit_bytes back specs table items places)) o k → o ≡ splice d 0 (table_bytes back gone specs table group items places n)
+      all-put d o k q = rw given-all at q.0
 
   -- those of one spec
   module _ (gone : Text → Bool) (i : ℕ) (l : i < group) (before hits : List ℕ) (noted : ℕ) (a : Adds before 0 (spec_hits back gone specs table items places n i) hits noted) (room : n ≤ length before) where
@@ -145,7 +131,7 @@ module _ (back : Bool) (specs : Text) (table : List ℕ) (group : ℕ) (items : 
     pub spec-room : (d : Text) (at : ℕ) → at + length (spec_gives back gone specs table items places n i) ≤ length d → at + length (each (take noted hits) (hit_bytes back specs table items places)) ≤ length d
     spec-room d at h = rw given-spec h
 
-    pub spec-put : (d : Text) (at : ℕ) (o : Text) (k : ℕ) → Put d at (each (take noted hits) (hit_bytes back specs table items places)) o k → Put d at (spec_gives back gone specs table items places n i) o k
+    pub spec-put : (d : Text) (at : ℕ) (o : Text) (k : ℕ) → Puts d at (each (take noted hits) (hit_bytes back specs table items places)) o k → Puts d at (spec_gives back gone specs table items places n i) o k
     spec-put d at o k q = rw given-spec at q
 
 pub noted-long : (hits : List ℕ) (count : ℕ) (codes after : List ℕ) (noted : ℕ) → Adds hits count codes after noted → length after ≡ length hits
@@ -168,10 +154,10 @@ module _ (back : Bool) (gone : Text → Bool) (specs : Text) (table : List ℕ) 
     pub specs-room : i < group → end + length (spec_gives back gone specs table items places n i) ≤ length out
     specs-room h = writing-room first at (across g 0 group) out end (across g i (group - i)) w (g i) (across g (i + 1) (group - (i + 1))) (across-next g i group h)
 
-    pub specs-next : i < group → (o : Text) (e : ℕ) → Put out end (spec_gives back gone specs table items places n i) o e → SpecsWritten back gone specs table group items places n first at (i + 1) o e
-    specs-next h o e q = writing_more first at (across g 0 group) out end (across g i (group - i)) w (g i) (across g (i + 1) (group - (i + 1))) (across-next g i group h) o e q.puts q.ends
+    pub specs-next : i < group → (o : Text) (e : ℕ) → Puts out end (spec_gives back gone specs table items places n i) o e → SpecsWritten back gone specs table group items places n first at (i + 1) o e
+    specs-next h o e q = writing_more first at (across g 0 group) out end (across g i (group - i)) w (g i) (across g (i + 1) (group - (i + 1))) (across-next g i group h) o e q.0 q.1
 
-    pub specs-end : group ≤ i → Put first at (group_gives back gone specs table group items places n) out end
+    pub specs-end : group ≤ i → Puts first at (group_gives back gone specs table group items places n) out end
     specs-end h =
         let e = across-none g i group h in
-        record { puts = written-whole first at (across g 0 group) out end (across g i (group - i)) w e; ends = written-place first at (across g 0 group) out end (across g i (group - i)) w e }
+        (written-whole first at (across g 0 group) out end (across g i (group - i)) w e, written-place first at (across g 0 group) out end (across g i (group - i)) w e)

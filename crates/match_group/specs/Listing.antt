@@ -10,7 +10,7 @@ use Rattle.meaning.specs.Entries.{◌and_then◌, match_lhs, match_rhs}
 use Rattle.meaning.specs.Rows.{Row, row_list_of}
 use Rattle.meaning.specs.Listing.{forward_rows, reverse_rows}
 use Rattle.match_row.specs.Pairs.{item_bytes, object_bytes}
-use Rattle.search.specs.Hits.{group_gives, objects_give, group_hits, object_hits}
+use Rattle.search.specs.Hits.{group_gives, first_bytes, group_hits, first_hits}
 
 -- how many specs are few
 abbrev pub few_specs : ℕ
@@ -47,16 +47,6 @@ listing back group items = read_items items and_then λ names. accepted (some (r
 abbrev pub listing_answer : Bool → ℕ → Text → Text → Answer Outputs
 listing_answer true = match_rhs
 listing_answer false = match_lhs
-
--- what comes first in a listing of a table: forward, the objects' rows
-abbrev pub first_bytes : Bool → Text → List ℕ → ℕ → Text
-first_bytes true specs table group = []
-first_bytes false specs table group = objects_give specs table group
-
--- and their hits
-abbrev pub first_hits : Bool → Text → List ℕ → ℕ → List ℕ
-first_hits true specs table group = []
-first_hits false specs table group = object_hits specs table group
 
 -- the bytes of a listing of a table and of places
 abbrev pub table_bytes : Bool → (Text → Bool) → Text → List ℕ → ℕ → Text → List ℕ → ℕ → Text

@@ -3,15 +3,16 @@ ghost use Rattle.std.specs.Prelude.{◌≡◌, [], ◌∷◌, ◌+◌, ◌≤◌
 ghost use Rattle.std.proofs.Math.Option.{some};
 ghost use Rattle.meaning.specs.Spec.{accepted};
 ghost use Rattle.meaning.specs.Buffers.{MeetsOne};
-ghost use Rattle.buffer.specs.Splice.{splice};
+ghost use Rattle.buffer.specs.Splice.{splice, Puts};
 ghost use Rattle.negatives.specs.Negatives.{excluded_by};
-ghost use Rattle.match_row.specs.Asking.{Askable, Put};
-ghost use Rattle.search.specs.Hits.{spec_gives};
-ghost use Rattle.search.specs.Noting.{objects_most, hit_room, PlacesIn, TableReady, Adds};
-ghost use Rattle.match_group.specs.Listing.{first_bytes, first_hits, table_bytes, table_hits, Noted};
+ghost use Rattle.match_row.specs.Asking.{Askable};
+ghost use Rattle.search.specs.Hits.{spec_gives, first_hits};
+ghost use Rattle.search.specs.Noting.{hit_room, PlacesIn, TableReady};
+ghost use Rattle.match_group.specs.Listing.{table_bytes, table_hits, Noted};
 
 use buffer::written::{Written, done, short};
-use search::found::{Found, HIT_ROOM, objects_found, spec_found, specs_found};
+use search::found::{HIT_ROOM, spec_found, specs_found};
+use search::listing::Listing;
 use search::put::put_hits;
 use search::scope::{Scope, Turn};
 
@@ -24,20 +25,8 @@ struct Notes {
     all: usize,
 }
 
-// Measures and notes what comes first: forward, the rows of object sources, whatever the items.
-fn first_found(back: bool, specs: &[u8], table: &[u16], group: usize, hits: &mut [u32]) -> Found
-    requires { TableReady specs.now table.now group × (length hits.old ≤ hit_room) }
-    ensures { (result.size ≡ length (first_bytes back specs.now table.now group)) × (result.size ≤ objects_most)
-        × Adds hits.old 0 (first_hits back specs.now table.now group) hits.new result.hits }
-{
-    if back {
-        return Found { size: 0, hits: 0 };
-    }
-    objects_found(specs, table, group, hits)
-}
-
 // Writes what one spec gives in its turn, by another search for its hits, of which there are no more than names. Answers the place after it.
-fn put_spec(
+fn put_spec<D: Listing>(
     out: &mut [u8],
     specs: &[u8],
     table: &[u16],
@@ -48,8 +37,8 @@ fn put_spec(
     turn: Turn,
 ) -> usize
     requires { TableReady specs.now table.now turn.scope.specs × PlacesIn items.now places.now turn.scope.names × Askable specs.now negatives.now turn.scope.negatives × (turn.spec < turn.scope.specs) × (turn.scope.names ≤ length hits.old) × (length hits.old ≤ hit_room)
-        × (turn.at + length (spec_gives turn.scope.back (excluded_by specs.now negatives.now turn.scope.negatives) specs.now table.now items.now places.now turn.scope.names turn.spec) ≤ length out.old) }
-    ensures { Put out.old turn.at (spec_gives turn.scope.back (excluded_by specs.now negatives.now turn.scope.negatives) specs.now table.now items.now places.now turn.scope.names turn.spec) out.new result × (length hits.new ≡ length hits.old) }
+        × (turn.at + length (spec_gives D.back (excluded_by specs.now negatives.now turn.scope.negatives) specs.now table.now items.now places.now turn.scope.names turn.spec) ≤ length out.old) }
+    ensures { Puts out.old turn.at (spec_gives D.back (excluded_by specs.now negatives.now turn.scope.negatives) specs.now table.now items.now places.now turn.scope.names turn.spec) out.new result × (length hits.new ≡ length hits.old) }
 {
     let scope = turn.scope;
     let search = Turn {
@@ -57,9 +46,9 @@ fn put_spec(
         spec: turn.spec,
         at: 0,
     };
-    let x = spec_found(search, specs, table, items, places, negatives, hits);
+    let x = spec_found::<D>(search, specs, table, items, places, negatives, hits);
     let noted = x.hits;
-    put_hits(
+    put_hits::<D>(
         out,
         turn.at,
         scope,
@@ -72,7 +61,7 @@ fn put_spec(
 }
 
 // Writes a listing not all of whose hits are noted: what comes first by its hits, and what the specs give, one after the other.
-fn put_again(
+fn put_again<D: Listing>(
     out: &mut [u8],
     specs: &[u8],
     table: &[u16],
@@ -83,28 +72,26 @@ fn put_again(
     notes: Notes,
 )
     requires { TableReady specs.now table.now notes.scope.specs × PlacesIn items.now places.now notes.scope.names × Askable specs.now negatives.now notes.scope.negatives × (notes.scope.names ≤ length hits.old) × (length hits.old ≤ hit_room)
-        × Noted hits.old notes.objects (first_hits notes.scope.back specs.now table.now notes.scope.specs) × (notes.objects ≤ length hits.old)
-        × (length (table_bytes notes.scope.back (excluded_by specs.now negatives.now notes.scope.negatives) specs.now table.now notes.scope.specs items.now places.now notes.scope.names) ≤ length out.old) }
-    ensures { out.new ≡ splice out.old 0 (table_bytes notes.scope.back (excluded_by specs.now negatives.now notes.scope.negatives) specs.now table.now notes.scope.specs items.now places.now notes.scope.names) }
+        × Noted hits.old notes.objects (first_hits D.back specs.now table.now notes.scope.specs) × (notes.objects ≤ length hits.old)
+        × (length (table_bytes D.back (excluded_by specs.now negatives.now notes.scope.negatives) specs.now table.now notes.scope.specs items.now places.now notes.scope.names) ≤ length out.old) }
+    ensures { out.new ≡ splice out.old 0 (table_bytes D.back (excluded_by specs.now negatives.now notes.scope.negatives) specs.now table.now notes.scope.specs items.now places.now notes.scope.names) }
 {
     let scope = notes.scope;
     let objects = notes.objects;
     let group = scope.specs;
-    let mut end = put_hits(out, 0, scope, specs, table, items, places, &hits[..objects]);
-    let mut i = 0;
-    while i < group {
+    let mut end = put_hits::<D>(out, 0, scope, specs, table, items, places, &hits[..objects]);
+    for i in 0..group {
         let turn = Turn {
             scope,
             spec: i,
             at: end,
         };
-        end = put_spec(out, specs, table, items, places, negatives, hits, turn);
-        i += 1;
+        end = put_spec::<D>(out, specs, table, items, places, negatives, hits, turn);
     }
 }
 
 // Writes a listing at the start of the buffer: by its hits, or where not all are noted by another search for them.
-fn put_listing(
+fn put_listing<D: Listing>(
     out: &mut [u8],
     specs: &[u8],
     table: &[u16],
@@ -115,22 +102,22 @@ fn put_listing(
     notes: Notes,
 )
     requires { TableReady specs.now table.now notes.scope.specs × PlacesIn items.now places.now notes.scope.names × Askable specs.now negatives.now notes.scope.negatives × (notes.scope.names ≤ length hits.old) × (length hits.old ≤ hit_room)
-        × Noted hits.old notes.objects (first_hits notes.scope.back specs.now table.now notes.scope.specs) × (notes.objects ≤ length hits.old)
-        × Noted hits.old notes.all (table_hits notes.scope.back (excluded_by specs.now negatives.now notes.scope.negatives) specs.now table.now notes.scope.specs items.now places.now notes.scope.names)
-        × (length (table_bytes notes.scope.back (excluded_by specs.now negatives.now notes.scope.negatives) specs.now table.now notes.scope.specs items.now places.now notes.scope.names) ≤ length out.old) }
-    ensures { out.new ≡ splice out.old 0 (table_bytes notes.scope.back (excluded_by specs.now negatives.now notes.scope.negatives) specs.now table.now notes.scope.specs items.now places.now notes.scope.names) }
+        × Noted hits.old notes.objects (first_hits D.back specs.now table.now notes.scope.specs) × (notes.objects ≤ length hits.old)
+        × Noted hits.old notes.all (table_hits D.back (excluded_by specs.now negatives.now notes.scope.negatives) specs.now table.now notes.scope.specs items.now places.now notes.scope.names)
+        × (length (table_bytes D.back (excluded_by specs.now negatives.now notes.scope.negatives) specs.now table.now notes.scope.specs items.now places.now notes.scope.names) ≤ length out.old) }
+    ensures { out.new ≡ splice out.old 0 (table_bytes D.back (excluded_by specs.now negatives.now notes.scope.negatives) specs.now table.now notes.scope.specs items.now places.now notes.scope.names) }
 {
     let scope = notes.scope;
     let all = notes.all;
     if hits.len() < all {
-        put_again(out, specs, table, items, places, negatives, hits, notes);
+        put_again::<D>(out, specs, table, items, places, negatives, hits, notes);
         return;
     }
-    put_hits(out, 0, scope, specs, table, items, places, &hits[..all]);
+    put_hits::<D>(out, 0, scope, specs, table, items, places, &hits[..all]);
 }
 
 // A listing whose hits are noted in a table with room for those of objects, and for those of a spec.
-fn list_rows(
+fn list_rows<D: Listing>(
     scope: Scope,
     specs: &[u8],
     table: &[u16],
@@ -141,10 +128,10 @@ fn list_rows(
     out: &mut [u8],
 ) -> Written
     requires { TableReady specs.now table.now scope.specs × PlacesIn items.now places.now scope.names × Askable specs.now negatives.now scope.negatives × (scope.specs ≤ length hits.old) × (scope.names ≤ length hits.old) × (length hits.old ≤ hit_room) }
-    ensures { MeetsOne (accepted (some (table_bytes scope.back (excluded_by specs.now negatives.now scope.negatives) specs.now table.now scope.specs items.now places.now scope.names) ∷ [])) out.old out.new result.refusal result.record result.length }
+    ensures { MeetsOne (accepted (some (table_bytes D.back (excluded_by specs.now negatives.now scope.negatives) specs.now table.now scope.specs items.now places.now scope.names) ∷ [])) out.old out.new result.refusal result.record result.length }
 {
-    let objects = first_found(scope.back, specs, table, scope.specs, hits);
-    let found = specs_found(
+    let objects = D::first_found(specs, table, scope.specs, hits);
+    let found = specs_found::<D>(
         scope,
         specs,
         table,
@@ -163,12 +150,12 @@ fn list_rows(
         objects: objects.hits,
         all: found.hits,
     };
-    put_listing(out, specs, table, items, places, negatives, hits, notes);
+    put_listing::<D>(out, specs, table, items, places, negatives, hits, notes);
     done(size)
 }
 
 // The listing of a group in its tables, with room for hits.
-pub(crate) fn list_group(
+pub(crate) fn list_group<D: Listing>(
     scope: Scope,
     specs: &[u8],
     table: &[u16],
@@ -178,10 +165,11 @@ pub(crate) fn list_group(
     out: &mut [u8],
 ) -> Written
     requires { TableReady specs.now table.now scope.specs × PlacesIn items.now places.now scope.names × Askable specs.now negatives.now scope.negatives }
-    ensures { MeetsOne (accepted (some (table_bytes scope.back (excluded_by specs.now negatives.now scope.negatives) specs.now table.now scope.specs items.now places.now scope.names) ∷ [])) out.old out.new result.refusal result.record result.length }
+    ensures { MeetsOne (accepted (some (table_bytes D.back (excluded_by specs.now negatives.now scope.negatives) specs.now table.now scope.specs items.now places.now scope.names) ∷ [])) out.old out.new result.refusal result.record result.length }
 {
+    // As it is: (a) no heap, so a table is an array of fixed size.
     let mut hits = [0u32; HIT_ROOM];
-    list_rows(
+    list_rows::<D>(
         scope, specs, table, items, places, negatives, &mut hits, out,
     )
 }

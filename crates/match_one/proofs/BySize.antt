@@ -1,11 +1,13 @@
 -- The ends of a name that is known to be matched, by its size, mean what the spec makes of it. Assumes nothing.
-use Prim.Native.Nat.{ℕ, suc, ◌+◌, ◌-◌, ◌≤◌, ◌<◌}
+use Prim.Native.Nat.{ℕ, suc, ◌+◌, ◌-◌, ◌≤◌}
 use native.Mathlib.Omega.{arith}
-use mathlib.Core.Path.{◌≡◌, refl, ap, ◌∙◌}
-use mathlib.Core.Bool.{Bool, true, false}
+use mathlib.Core.Path.{◌≡◌, refl, sym, ap, ◌∙◌}
+use mathlib.Core.Bool.{Bool, true, false, cond}
 use mathlib.Core.List.{[]}
+use Rattle.std.specs.Prelude as prelude
+use mathlib.Core.Logic.{◌⊎◌, inl, inr}
 use mathlib.Core.Option.{Option, none, some}
-use borrow.Author.Tests.{lt-ltb, le-ltb, ltb-false}
+use borrow.Author.Tests.{le-ltb, ltb-false}
 use lib.Dec.{ltb}
 use lib.ListN.{length, take, drop}
 use Rattle.meaning.specs.Bytes.{Text, or_empty, any, same}
@@ -25,12 +27,12 @@ use Rattle.matcher.specs.declared.types.Lead.TheVariants as lead
 use Rattle.matcher.specs.declared.types.Target.{Target}
 use Rattle.matcher.specs.declared.types.Target.TheVariants as target
 use Rattle.matcher.specs.declared.types.Matcher.{Matcher}
+use Rattle.matcher.specs.declared.types.RowText.{RowText}
 use Rattle.matcher.specs.declared.types.RowText.TheVariants as row-text
 use Rattle.matcher.specs.declared.types.Ends.{Ends}
-use Rattle.matcher.specs.declared.types.Ends.TheVariants as ends
 use Rattle.matcher.specs.Matching.{ends_meant, EndsWithin, needle_meant, target_meant, StarIn, NeedleWithin, TargetWithin, MatcherWithin, Matches, object_ends}
-use Rattle.match_one.specs.Answers.{filled_place, whole_places, caught_places, digits_places, object_places, hit_by, Answers, needle_form, reverse_forms, AnswersBack}
-use Rattle.match_one.specs.Known.{if_long_enough, known_caught, known_places, known_filled, known_glob_back, known_literal_back, known_back, KnownForward, KnownReverse}
+use Rattle.match_one.specs.Answers.{row_of, spelt_ends, completed_places, filled_place, whole_places, caught_places, digits_places, object_places, hit_by, Answers, needle_form, reverse_forms, AnswersBack}
+use Rattle.match_one.specs.Known.{caught_len, if_long_enough, known_caught, known_places, known_filled, known_glob_back, known_literal_back, known_back, KnownForward, KnownReverse}
 use Rattle.match_one.proofs.Caught.{in_place}
 use Rattle.match_one.proofs.Fills.{filled-meant, filled_within}
 use Rattle.match_one.proofs.Onward.{whole-answers, caught-answers, forward-told}
@@ -42,14 +44,10 @@ none-some : {A : Type 0} (x : A) → none ≡ some x → ⊥
 none-some x k = let z : ◌≡◌ {A = ℕ} 0 1 = cc in omega arith
 
 -- ---- a name that is not too short
-module _ (n size : ℕ) (e : Ends) where
-  pub long-enough : size ≤ n + 1 → (r : Ends) → r ≡ e → r ≡ if_long_enough n size e
+module _ (n size : ℕ) (e : prelude.Option Ends) where
+  long-enough : size ≤ n + 1 → (r : prelude.Option Ends) → r ≡ e → r ≡ if_long_enough n size e
   unfolding if_long_enough
   long-enough h r q = rw (le-ltb (n + 1) size h) q
-
-  pub too_short : n + 1 < size → ends.Nothing ≡ if_long_enough n size e
-  unfolding if_long_enough
-  too_short h = rw (lt-ltb (n + 1) size h)
 
   -- the places of both stand where those of the ends do
   short-within : (len : ℕ) → (size ≤ n + 1 → EndsWithin len n e) → EndsWithin len n (if_long_enough n size e)
@@ -126,7 +124,7 @@ module _ (specs : Text) (src dst : Side) (rhs : Target) (v : Within (length spec
 module _ (specs : Text) (m : Matcher) (w : MatcherWithin (length specs) m) where
   -- what is missed has no row
   missed : (name : Text) (s : Spec) → Matches specs s m → hit_by (needle_meant (side_text specs m.src) m.lhs) name ≡ miss → none ≡ forward_ends s name
-  missed name s h e = forward-told specs name m ends.Nothing (rw e (record { meant = refl; within = tt })) s h
+  missed name s h e = forward-told specs name m prelude.None (rw e (record { meant = refl; within = tt })) s h
 
   known-meant : (name : Text) (s : Spec) → Matches specs s m → (e : listing.Ends) → forward_ends s name ≡ some e → ends_meant specs name (known_places m.src m.lhs m.dst m.rhs (length name)) ≡ forward_ends s name
   known-meant name s h e k =
@@ -154,7 +152,7 @@ module _ (specs : Text) (m : Matcher) (w : MatcherWithin (length specs) m) where
       go needle.Object q = digits-any name m.src m.dst m.rhs ∙ rw q at told
       go needle.PartialName q = absurd (none-some e (rw q at told ∙ k))
 
-  pub known-forward : (n : ℕ) (r : Ends) → r ≡ known_places m.src m.lhs m.dst m.rhs n → KnownForward specs m n r
+  known-forward : (n : ℕ) (r : prelude.Option Ends) → r ≡ known_places m.src m.lhs m.dst m.rhs n → KnownForward specs m n r
   known-forward n r er =
       rw er
       (record {
@@ -179,7 +177,7 @@ module _ (specs : Text) (src : Side) (w : Within (length specs) src) where
       go : (d : Side) → StarIn second d → EndsWithin (length specs) n (known_filled src star d second n)
       go side.Absent i = tt
       go (side.Part at size) i =
-          short-within n size (ends.Row (filled_place src star second (n + 1 - size)) row-text.Name) (length specs) (λ l. (filled_within (length specs) n src star second (n + 1 - size) w h (omega arith), tt))
+          short-within n size (row_of (filled_place src star second (n + 1 - size)) row-text.Name) (length specs) (λ l. (filled_within (length specs) n src star second (n + 1 - size) w h (omega arith), tt))
       go side.Head i = tt
   known-back-fits n needle.FullName h dst rhs u = literal-back-fits n rhs
   known-back-fits n needle.Object h dst rhs u = literal-back-fits n rhs
@@ -193,7 +191,7 @@ module _ (specs : Text) (src : Side) (w : Within (length specs) src) where
   literal-known-back name dst (target.Literal l) some-row = go (same (side_text specs dst) name) refl
     where
       go : (b : Bool) → same (side_text specs dst) name ≡ b
-          → AnswersBack specs name (reverse_forms (some (literal (side_text specs src))) (some (literal (side_text specs dst))) name) (ends.Row (row-text.Led lead.AsIs src) row-text.Name)
+          → AnswersBack specs name (reverse_forms (some (literal (side_text specs src))) (some (literal (side_text specs dst))) name) (row_of (row-text.Led lead.AsIs src) row-text.Name)
       go true e = record { meant = rw e; within = (w, tt) }
       go false e = absurd (some-row (rw e))
 
@@ -205,7 +203,7 @@ module _ (specs : Text) (src : Side) (w : Within (length specs) src) where
   filled-known-back name star h second (side.Part at size) v i none k some-row = absurd (some-row refl)
   filled-known-back name star h second (side.Part at size) v i (some c) k some-row =
       let p = in_place specs at size second name c v i k in
-      let row = ends.Row (filled_place src star second (length name + 1 - size)) row-text.Name in
+      let row = row_of (filled_place src star second (length name + 1 - size)) row-text.Name in
       let z : capture (take second (part_at specs at size)) (drop (suc second) (part_at specs at size)) name ≡ some (part_at name second (length name + 1 - size)) = k ∙ ap some p.is in
       rw (← long-enough (length name) size row p.long row refl)
       (record {
@@ -231,11 +229,11 @@ module _ (specs : Text) (m : Matcher) (w : MatcherWithin (length specs) m) where
   known-meant-back name s h e k =
       back-told specs name m (known_back m.src m.lhs m.dst m.rhs (length name))
       (known-answers-back specs m.src w.src-within name m.lhs w.lhs-within m.dst w.dst-within m.rhs w.rhs-within
-      (λ z. none-some e (back-told specs name m ends.Nothing (rw z (record { meant = refl; within = tt })) s h ∙ k)))
+      (λ z. none-some e (back-told specs name m prelude.None (rw z (record { meant = refl; within = tt })) s h ∙ k)))
       s
       h
 
-  pub known-reverse : (n : ℕ) (r : Ends) → r ≡ known_back m.src m.lhs m.dst m.rhs n → KnownReverse specs m n r
+  known-reverse : (n : ℕ) (r : prelude.Option Ends) → r ≡ known_back m.src m.lhs m.dst m.rhs n → KnownReverse specs m n r
   known-reverse n r er =
       rw er
       (record {
@@ -244,49 +242,102 @@ module _ (specs : Text) (m : Matcher) (w : MatcherWithin (length specs) m) where
       })
 
 -- ---- the arms of a `match`
-module _ (src : Side) (star : ℕ) (dst : Side) (rhs : Target) (n : ℕ) (r : Ends) where
-  pub caught-part : (at size : ℕ) → src ≡ side.Part at size → r ≡ if_long_enough n size (caught_places dst rhs star (n + 1 - size)) → r ≡ known_caught src star dst rhs n
-  caught-part at size is e = rw is e
 
-  pub glob-back-pattern : (second : ℕ) → rhs ≡ target.Pattern second → r ≡ known_filled src star dst second n → r ≡ known_glob_back src star dst rhs n
-  glob-back-pattern second is e = rw is e
+-- what a side is known to catch decides
+none-decides : (b : Bool) (k : ℕ) (e : prelude.Option Ends) → cond b prelude.None (prelude.Some k) ≡ prelude.None → prelude.None ≡ cond b prelude.None e
+none-decides true k e h = refl
+none-decides false k e h = absurd (let z : ◌≡◌ {A = ℕ} 0 1 = cc in omega arith)
 
-pub filled-part : (src : Side) (star : ℕ) (dst : Side) (second n : ℕ) (r : Ends) (at size : ℕ) → dst ≡ side.Part at size
-    → r ≡ if_long_enough n size (ends.Row (filled_place src star second (n + 1 - size)) row-text.Name) → r ≡ known_filled src star dst second n
-filled-part src star dst second n r at size is e = rw is e
+some-decides : (b : Bool) (k len : ℕ) (f : ℕ → prelude.Option Ends) → cond b prelude.None (prelude.Some k) ≡ prelude.Some len → f len ≡ cond b prelude.None (f k)
+some-decides true k len f h = absurd (let z : ◌≡◌ {A = ℕ} 0 1 = cc in omega arith)
+some-decides false k len f h = let e : k ≡ len = cc in rw e
 
-pub literal-back : (src : Side) (rhs : Target) (l : Lead) → rhs ≡ target.Literal l → ends.Row (row-text.Led lead.AsIs src) row-text.Name ≡ known_literal_back src rhs
-literal-back src rhs l is = rw is
+-- nothing is too little
+module _ (star : ℕ) (dst : Side) (rhs : Target) (n : ℕ) where
+  caught-none : (src : Side) → caught_len src n ≡ prelude.None → prelude.None ≡ known_caught src star dst rhs n
+  unfolding if_long_enough
+  caught-none side.Absent h = refl
+  caught-none (side.Part at size) h = none-decides (ltb (n + 1) size) (n + 1 - size) (caught_places dst rhs star (n + 1 - size)) h
+  caught-none side.Head h = refl
+
+  caught-some : (src : Side) (len : ℕ) → caught_len src n ≡ prelude.Some len → caught_places dst rhs star len ≡ known_caught src star dst rhs n
+  unfolding if_long_enough
+  caught-some side.Absent len h = absurd (let z : ◌≡◌ {A = ℕ} 0 1 = cc in omega arith)
+  caught-some (side.Part at size) len h = some-decides (ltb (n + 1) size) (n + 1 - size) len (λ k. caught_places dst rhs star k) h
+  caught-some side.Head len h = absurd (let z : ◌≡◌ {A = ℕ} 0 1 = cc in omega arith)
+
+module _ (src : Side) (star second n : ℕ) where
+  filled-none : (dst : Side) → caught_len dst n ≡ prelude.None → prelude.None ≡ known_filled src star dst second n
+  unfolding if_long_enough
+  filled-none side.Absent h = refl
+  filled-none (side.Part at size) h = none-decides (ltb (n + 1) size) (n + 1 - size) (row_of (filled_place src star second (n + 1 - size)) row-text.Name) h
+  filled-none side.Head h = refl
+
+  filled-some : (dst : Side) (len : ℕ) → caught_len dst n ≡ prelude.Some len → row_of (filled_place src star second len) row-text.Name ≡ known_filled src star dst second n
+  unfolding if_long_enough
+  filled-some side.Absent len h = absurd (let z : ◌≡◌ {A = ℕ} 0 1 = cc in omega arith)
+  filled-some (side.Part at size) len h = some-decides (ltb (n + 1) size) (n + 1 - size) len (λ k. row_of (filled_place src star second k) row-text.Name) h
+  filled-some side.Head len h = absurd (let z : ◌≡◌ {A = ℕ} 0 1 = cc in omega arith)
 
 module _ (src : Side) (lhs : Needle) (dst : Side) (rhs : Target) (n : ℕ) where
-  pub known-absent : lhs ≡ needle.Absent → ends.Nothing ≡ known_places src lhs dst rhs n
+  pub known-absent : lhs ≡ needle.Absent → prelude.None ≡ known_places src lhs dst rhs n
   known-absent is = rw is
 
-  pub back-absent : lhs ≡ needle.Absent → ends.Nothing ≡ known_back src lhs dst rhs n
+  pub back-absent : lhs ≡ needle.Absent → prelude.None ≡ known_back src lhs dst rhs n
   back-absent is = rw is
 
-module _ (src : Side) (lhs : Needle) (dst : Side) (rhs : Target) (n : ℕ) (r : Ends) where
-  pub known-glob : (star : ℕ) → lhs ≡ needle.Glob star → r ≡ known_caught src star dst rhs n → r ≡ known_places src lhs dst rhs n
-  known-glob star is e = rw is e
+  module _ (star : ℕ) (is : lhs ≡ needle.Glob star) (x : prelude.Option ℕ) where
+    pub glob-short : x ≡ caught_len src n → x ≡ prelude.None → (r : prelude.Option Ends) → r ≡ prelude.None → r ≡ known_places src lhs dst rhs n
+    glob-short e h r er = rw is (er ∙ caught-none star dst rhs n src (sym e ∙ h))
 
-  pub known-full : lhs ≡ needle.FullName → r ≡ whole_places dst rhs → r ≡ known_places src lhs dst rhs n
-  known-full is e = rw is e
+    pub glob-long : x ≡ caught_len src n → (len : ℕ) → x ≡ prelude.Some len → (r : prelude.Option Ends) → r ≡ caught_places dst rhs star len → r ≡ known_places src lhs dst rhs n
+    glob-long e len h r er = rw is (er ∙ caught-some star dst rhs n src len (sym e ∙ h))
 
-  pub known-digits : lhs ≡ needle.Object → r ≡ digits_places src dst rhs → r ≡ known_places src lhs dst rhs n
-  known-digits is e = rw is e
+    module _ (second : ℕ) (of : rhs ≡ target.Pattern second) (e : x ≡ caught_len dst n) where
+      pub both-short : x ≡ prelude.None → (r : prelude.Option Ends) → r ≡ prelude.None → r ≡ known_back src lhs dst rhs n
+      both-short h r er = rw (is, of) (er ∙ filled-none src star second n dst (sym e ∙ h))
 
-  pub known-partial : lhs ≡ needle.PartialName → r ≡ whole_places dst rhs → r ≡ known_places src lhs dst rhs n
-  known-partial is e = rw is e
+      pub both-long : (len : ℕ) → x ≡ prelude.Some len → (t : RowText) → t ≡ filled_place src star second len → row_of t row-text.Name ≡ known_back src lhs dst rhs n
+      both-long len h t et = rw (is, of, et) (filled-some src star second n dst len (sym e ∙ h))
 
-  pub back-glob : (star : ℕ) → lhs ≡ needle.Glob star → r ≡ known_glob_back src star dst rhs n → r ≡ known_back src lhs dst rhs n
-  back-glob star is e = rw is e
+  pub known-no-pattern : (star : ℕ) → lhs ≡ needle.Glob star → ((k : ℕ) → rhs ≡ target.Pattern k → ⊥) → prelude.None ≡ known_back src lhs dst rhs n
+  known-no-pattern star is d = rw is (go rhs d)
+    where
+      go : (r : Target) → ((k : ℕ) → r ≡ target.Pattern k → ⊥) → prelude.None ≡ known_glob_back src star dst r n
+      go target.Absent d = refl
+      go (target.Pattern k) d = absurd (d k refl)
+      go (target.Literal l) d = refl
 
-  module _ (e : r ≡ known_literal_back src rhs) where
-    pub back_full : lhs ≡ needle.FullName → r ≡ known_back src lhs dst rhs n
-    back_full is = rw is e
+  module _ (r : prelude.Option Ends) where
+    pub known-whole : (lhs ≡ needle.FullName) ⊎ (lhs ≡ needle.PartialName) → r ≡ completed_places row-text.Name dst rhs → r ≡ known_places src lhs dst rhs n
+    known-whole (inl is) e = rw is e
+    known-whole (inr is) e = rw is e
 
-    pub back-digits : lhs ≡ needle.Object → r ≡ known_back src lhs dst rhs n
-    back-digits is = rw is e
+    pub known-digits : lhs ≡ needle.Object → r ≡ object_places src lhs dst rhs → r ≡ known_places src lhs dst rhs n
+    known-digits is e = let h : r ≡ digits_places src dst rhs = rw is at e in rw is h
 
-    pub back-partial : lhs ≡ needle.PartialName → r ≡ known_back src lhs dst rhs n
-    back-partial is = rw is e
+  -- a literal source
+  literal-known : (lhs ≡ needle.FullName) ⊎ ((lhs ≡ needle.Object) ⊎ (lhs ≡ needle.PartialName)) → known_back src lhs dst rhs n ≡ known_literal_back src rhs
+  literal-known (inl e) = rw e
+  literal-known (inr (inl e)) = rw e
+  literal-known (inr (inr e)) = rw e
+
+  module _ (is : (lhs ≡ needle.FullName) ⊎ ((lhs ≡ needle.Object) ⊎ (lhs ≡ needle.PartialName))) where
+    pub known-no-literal : ((l : Lead) → rhs ≡ target.Literal l → ⊥) → prelude.None ≡ known_back src lhs dst rhs n
+    known-no-literal d = rw (literal-known is) (go rhs d)
+      where
+        go : (r : Target) → ((l : Lead) → r ≡ target.Literal l → ⊥) → prelude.None ≡ known_literal_back src r
+        go target.Absent d = refl
+        go (target.Pattern k) d = refl
+        go (target.Literal l) d = absurd (d l refl)
+
+    pub known-literal : (l : Lead) → rhs ≡ target.Literal l → (r : Ends) → r ≡ spelt_ends src → prelude.Some r ≡ known_back src lhs dst rhs n
+    known-literal l of r er = rw (literal-known is, of, er)
+
+-- ---- the places are those of the row
+module _ (specs : Text) (m : Matcher) (w : MatcherWithin (length specs) m) (n : ℕ) (r : prelude.Option Ends) where
+  pub forward-known : r ≡ known_places m.src m.lhs m.dst m.rhs n → (r ≡ known_places m.src m.lhs m.dst m.rhs n) × KnownForward specs m n r
+  forward-known e = (e, known-forward specs m w n r e)
+
+  pub reverse-known : r ≡ known_back m.src m.lhs m.dst m.rhs n → (r ≡ known_back m.src m.lhs m.dst m.rhs n) × KnownReverse specs m n r
+  reverse-known e = (e, known-reverse specs m w n r e)

@@ -3,6 +3,7 @@ use Prim.Native.Nat.{ℕ}
 use mathlib.Core.Path.{◌≡◌, refl, ap, ap₂, ◌∙◌}
 use mathlib.Core.Bool.{Bool}
 use mathlib.Core.List.{[]}
+use Rattle.std.specs.Prelude as prelude
 use mathlib.Core.Option.{Option, none, some, map}
 use lib.ListN.{length}
 use Rattle.meaning.specs.Bytes.{Text}
@@ -15,29 +16,30 @@ use Rattle.parse.specs.Places.{Within}
 use Rattle.refspec.specs.Instructions.{side_text}
 use Rattle.matcher.specs.declared.types.Needle.{Needle}
 use Rattle.matcher.specs.declared.types.Needle.TheVariants as needle
-use Rattle.matcher.specs.declared.types.Lead.{Lead}
 use Rattle.matcher.specs.declared.types.Lead.TheVariants as lead
 use Rattle.matcher.specs.declared.types.Target.{Target}
 use Rattle.matcher.specs.declared.types.Target.TheVariants as target
 use Rattle.matcher.specs.declared.types.Matcher.{Matcher}
 use Rattle.matcher.specs.declared.types.RowText.TheVariants as row-text
 use Rattle.matcher.specs.declared.types.Ends.{Ends}
-use Rattle.matcher.specs.declared.types.Ends.TheVariants as ends
 use Rattle.matcher.specs.Matching.{ends_meant, needle_meant, EndsWithin, MatcherWithin, Matches, object_ends_by, object_ends, object_row_of}
-use Rattle.match_one.specs.Answers.{digits_places, object_places, maps_led}
+use Rattle.match_one.specs.Answers.{completed_places, digits_places, object_places, maps_led}
 use Rattle.match_one.proofs.Onward.{led-maps}
 
--- the arms of a `match` on a destination
-module _ (src dst : Side) (rhs : Target) where
-  pub digits-absent : rhs ≡ target.Absent → ends.Row (row-text.Led lead.Digits src) row-text.Absent ≡ digits_places src dst rhs
-  digits-absent is = rw is
+-- the arms of a `match` on what the source looks for
+module _ (src dst : Side) (lhs : Needle) (rhs : Target) where
+  pub object_is : (r : prelude.Option Ends) → lhs ≡ needle.Object → r ≡ completed_places (row-text.Led lead.Digits src) dst rhs → r ≡ object_places src lhs dst rhs
+  object_is r is h = rw is h
 
-  pub digits-literal : (l : Lead) → rhs ≡ target.Literal l → ends.Row (row-text.Led lead.Digits src) (row-text.Led l dst) ≡ digits_places src dst rhs
-  digits-literal l is = rw is
-
-  -- the arm of one on what the source looks for
-  pub object-digits : (lhs : Needle) (r : Ends) → lhs ≡ needle.Object → r ≡ digits_places src dst rhs → r ≡ object_places src lhs dst rhs
-  object-digits lhs r is h = rw is h
+  pub object-not : (lhs ≡ needle.Object → ⊥) → prelude.None ≡ object_places src lhs dst rhs
+  object-not d = go lhs d
+    where
+      go : (l : Needle) → (l ≡ needle.Object → ⊥) → prelude.None ≡ object_places src l dst rhs
+      go needle.Absent d = refl
+      go (needle.Glob star) d = refl
+      go needle.FullName d = refl
+      go needle.Object d = absurd (d refl)
+      go needle.PartialName d = refl
 
 -- the object id that is looked for, if anything is
 abbrev object_in_by : Option meaning.Needle → Option Text
@@ -76,7 +78,7 @@ by-source : (negative : Bool) (o : Option Text) → object_in_by (map (needle_of
 by-source negative none = refl
 by-source negative (some t) = refl
 
-module _ (specs : Text) (m : Matcher) (r : Ends) (er : r ≡ object_places m.src m.lhs m.dst m.rhs) where
+module _ (specs : Text) (m : Matcher) (r : prelude.Option Ends) (er : r ≡ object_places m.src m.lhs m.dst m.rhs) where
   -- the ends are those of the object source of the matcher's spec
   pub object-told : (s : Spec) → Matches specs s m → ends_meant specs [] r ≡ object_ends s
   unfolding object_ends object_source
@@ -88,8 +90,12 @@ module _ (specs : Text) (m : Matcher) (r : Ends) (er : r ≡ object_places m.src
       (led-maps whole (side_text specs m.dst) m.rhs h.completes ∙ ap (maps_to whole) h.rhs-is)
 
   -- and stand within the list
-  pub object-within : MatcherWithin (length specs) m → EndsWithin (length specs) 0 r
+  object-within : MatcherWithin (length specs) m → EndsWithin (length specs) 0 r
   object-within w = rw er (places-within specs m.src m.dst w.src-within w.dst-within m.lhs m.rhs)
+
+  -- so they are told in all ways
+  pub object-all : MatcherWithin (length specs) m → (r ≡ object_places m.src m.lhs m.dst m.rhs) × ((s : Spec) → Matches specs s m → ends_meant specs [] r ≡ object_ends s) × EndsWithin (length specs) 0 r
+  object-all w = (er, λ s h. object-told s h, object-within w)
 
 -- the meaning's row of an object source is the row of its ends
 pub object-rows : (i : ℕ) (s : Spec) → object_rows (i, s) ≡ object_row_of i (object_ends s)

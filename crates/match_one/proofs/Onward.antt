@@ -1,7 +1,10 @@
 -- The ends of a name forward, by the arms of the code, and that they mean what the spec makes of the name. Assumes nothing.
 use Prim.Native.Nat.{ℕ, suc, ◌+◌, ◌≤◌}
+use native.Mathlib.Omega.{arith}
 use mathlib.Core.Path.{◌≡◌, refl, sym, ap, ◌∙◌}
-use mathlib.Core.Bool.{Bool, true, false}
+use mathlib.Core.Bool.{Bool, true, false, not, cond, false≢true}
+use Rattle.std.specs.Prelude as prelude
+use mathlib.Core.Logic.{◌⊎◌, inl, inr}
 use mathlib.Core.Option.{Option, none, some, map}
 use lib.ListN.{length, take, drop}
 use Rattle.meaning.specs.Bytes.{Text, any, same}
@@ -10,44 +13,30 @@ use Rattle.meaning.specs.Prefix.{candidates}
 use Rattle.meaning.specs.Match.{form_of, needle_of, Hit, miss, whole, caught, whole_if, caught_by, capture, mapped, maps_to, forward_by, forward}
 use Rattle.meaning.specs.Listing.{ends_of, forward_ends}
 use Rattle.glob.specs.declared.Captured.{Captured}
-use Rattle.std.specs.Prelude as std
 use Rattle.glob.specs.Captures.{capture_meant, CaptureWithin}
 use Rattle.parse.specs.declared.types.Side.{Side}
 use Rattle.parse.specs.Places.{part_at, Within}
 use Rattle.refspec.specs.Instructions.{side_text}
 use Rattle.matcher.specs.declared.types.Needle.{Needle}
 use Rattle.matcher.specs.declared.types.Needle.TheVariants as needle
-use Rattle.matcher.specs.declared.types.Lead.{Lead}
 use Rattle.matcher.specs.declared.types.Target.{Target}
 use Rattle.matcher.specs.declared.types.Target.TheVariants as target
 use Rattle.matcher.specs.declared.types.Matcher.{Matcher}
 use Rattle.matcher.specs.declared.types.RowText.TheVariants as row-text
 use Rattle.matcher.specs.declared.types.Ends.{Ends}
-use Rattle.matcher.specs.declared.types.Ends.TheVariants as ends
 use Rattle.matcher.specs.Matching.{ends_meant, needle_meant, target_meant, Completes, StarIn, NeedleWithin, TargetWithin, Matches}
-use Rattle.match_one.specs.Answers.{whole_places, caught_places, hit_by, maps_led, Answers}
+use Rattle.match_one.specs.Answers.{whole_places, caught_places, is_star, takes, whole_hit, hit_meant, destination_place, forward_row, forward_made, hit_by, maps_led, Answers}
 use Rattle.match_one.proofs.Fills.{filled-meant, filled_within}
 
--- ---- the arms of a `match` on a destination
+-- ---- stars
 
-module _ (dst : Side) (rhs : Target) where
-  module _ (is : rhs ≡ target.Absent) where
-    pub whole-absent : ends.Row row-text.Name row-text.Absent ≡ whole_places dst rhs
-    whole-absent = rw is
+-- the star of a source stands in it
+pub needle-star-in : (src : Side) (lhs : Needle) (star : ℕ) → lhs ≡ needle.Glob star → NeedleWithin src lhs → StarIn star src
+needle-star-in src lhs star is h = rw is at h
 
-    pub caught-absent : (from n : ℕ) → ends.Row row-text.Name row-text.Absent ≡ caught_places dst rhs from n
-    caught-absent from n = rw is
-
-  pub whole-literal : (l : Lead) → rhs ≡ target.Literal l → ends.Row row-text.Name (row-text.Led l dst) ≡ whole_places dst rhs
-  whole-literal l is = rw is
-
-  module _ (star : ℕ) (is : rhs ≡ target.Pattern star) where
-    -- its star stands in it
-    pub target-star-in : TargetWithin dst rhs → StarIn star dst
-    target-star-in h = rw is at h
-
-    pub caught-pattern : (from n : ℕ) (r : Ends) → r ≡ caught_places dst (target.Pattern star) from n → r ≡ caught_places dst rhs from n
-    caught-pattern from n r h = rw is h
+-- that of a destination too
+pub target-star-in : (dst : Side) (rhs : Target) (star : ℕ) → rhs ≡ target.Pattern star → TargetWithin dst rhs → StarIn star dst
+target-star-in dst rhs star is h = rw is at h
 
 -- ---- the ends that places denote
 
@@ -68,77 +57,74 @@ module _ (specs name : Text) (dst : Side) (w : Within (length specs) dst) where
       }
   caught-answers (target.Literal l') from n h l = record { meant = refl; within = tt }
 
--- a source with a star
-module _ (specs name : Text) (dst : Side) (rhs : Target) (a b : Text) (g : std.Option Captured) (eg : capture_meant name g ≡ capture a b name) where
-  -- no capture
-  pub glob-none : g ≡ std.None → Answers specs name dst rhs (caught_by (capture a b name)) ends.Nothing
-  glob-none e = let z : capture a b name ≡ none = sym (rw e at eg) in rw z (record { meant = refl; within = tt })
+-- ---- what a source catches
 
-  -- one
-  pub glob-part : (x : Captured) (r : Ends) → g ≡ std.Some x → CaptureWithin (length name) g → Within (length specs) dst → TargetWithin dst rhs → r ≡ caught_places dst rhs x.from x.len
-      → Answers specs name dst rhs (caught_by (capture a b name)) r
-  glob-part x r e l w h er =
-      let z : capture a b name ≡ some (part_at name x.from x.len) = sym (rw e at eg) in
-      let f : x.from + x.len ≤ length name = rw e at l in
-      rw (z, er) (caught-answers specs name dst w rhs x.from x.len h f)
+module _ (specs name : Text) (src : Side) (lhs : Needle) where
+  pub nothing-hit : (lhs ≡ needle.Absent) ⊎ (lhs ≡ needle.Object) → hit_meant name lhs prelude.None ≡ hit_by (needle_meant (side_text specs src) lhs) name
+  nothing-hit (inl is) = rw is
+  nothing-hit (inr is) = rw is
 
--- a source without one: what a test told
-told-whole : (specs name : Text) (dst : Side) (rhs : Target) (v : Bool) (r : Ends) → v ≡ true → Within (length specs) dst → r ≡ whole_places dst rhs → Answers specs name dst rhs (whole_if v) r
-told-whole specs name dst rhs v r e w h = rw (e, h) (whole-answers specs name dst w rhs)
+  pub glob-hit : (star : ℕ) → lhs ≡ needle.Glob star → (g : prelude.Option Captured) → capture_meant name g ≡ capture (take star (side_text specs src)) (drop (suc star) (side_text specs src)) name
+      → hit_meant name lhs g ≡ hit_by (needle_meant (side_text specs src) lhs) name
+  glob-hit star is g eg = rw (is, ← eg) (go g)
+    where
+      go : (g : prelude.Option Captured) → hit_meant name (needle.Glob star) g ≡ caught_by (capture_meant name g)
+      go prelude.None = refl
+      go (prelude.Some c) = refl
 
-told-miss : (specs name : Text) (dst : Side) (rhs : Target) (v : Bool) → v ≡ false → Answers specs name dst rhs (whole_if v) ends.Nothing
-told-miss specs name dst rhs v e = rw e (record { meant = refl; within = tt })
+  module _ (u : Text) (eu : u ≡ side_text specs src) (b : Bool) (g : prelude.Option Captured) (eg : g ≡ whole_hit b) where
+    pub full-hit : lhs ≡ needle.FullName → b ≡ same u name → hit_meant name lhs g ≡ hit_by (needle_meant (side_text specs src) lhs) name
+    full-hit is eb = rw (is, eg, ← eu, ← eb) (go b)
+      where
+        go : (b : Bool) → hit_meant name needle.FullName (whole_hit b) ≡ whole_if b
+        go true = refl
+        go false = refl
 
-module _ (specs name : Text) (src dst : Side) (rhs : Target) (u : Text) (eu : u ≡ side_text specs src) (b : Bool) where
-  module _ (eb : b ≡ same u name) where
-    is_same : b ≡ same (side_text specs src) name
-    is_same = rw eu at eb
+    pub partial-hit : lhs ≡ needle.PartialName → b ≡ any (same name) (candidates u) → hit_meant name lhs g ≡ hit_by (needle_meant (side_text specs src) lhs) name
+    partial-hit is eb = rw (is, eg, ← eu, ← eb) (go b)
+      where
+        go : (b : Bool) → hit_meant name needle.PartialName (whole_hit b) ≡ whole_if b
+        go true = refl
+        go false = refl
 
-    -- the full name
-    pub full_is : (r : Ends) → b ≡ true → Within (length specs) dst → r ≡ whole_places dst rhs → Answers specs name dst rhs (whole_if (same (side_text specs src) name)) r
-    full_is r e w h = told-whole specs name dst rhs (same (side_text specs src) name) r (sym is_same ∙ e) w h
+-- nothing or a whole name stands in each name
+pub whole-within : (n : ℕ) (b : Bool) (g : prelude.Option Captured) → g ≡ whole_hit b → CaptureWithin n g
+whole-within n b g eg = rw eg (go b)
+  where
+    go : (b : Bool) → CaptureWithin n (whole_hit b)
+    go true = omega arith
+    go false = tt
 
-    -- another
-    pub full-not : b ≡ false → Answers specs name dst rhs (whole_if (same (side_text specs src) name)) ends.Nothing
-    full-not e = told-miss specs name dst rhs (same (side_text specs src) name) (sym is_same ∙ e)
+-- ---- the ends that come of it
 
-  module _ (eb : b ≡ any (same name) (candidates u)) where
-    is-candidate : b ≡ any (same name) (candidates (side_text specs src))
-    is-candidate = eb ∙ ap (λ (t : Text). any (same name) (candidates t)) eu
+module _ (specs name : Text) (m : Matcher) (g : prelude.Option Captured) (eg : hit_meant name m.lhs g ≡ hit_by (needle_meant (side_text specs m.src) m.lhs) name) where
+  pub hit-missed : g ≡ prelude.None → (r : prelude.Option Captured) → r ≡ prelude.None → Answers specs name m.dst m.rhs (hit_by (needle_meant (side_text specs m.src) m.lhs) name) (forward_made m r)
+  hit-missed e r er = rw (← eg, e, er) (record { meant = refl; within = tt })
 
-    -- a candidate
-    pub partial-is : (r : Ends) → b ≡ true → Within (length specs) dst → r ≡ whole_places dst rhs → Answers specs name dst rhs (whole_if (any (same name) (candidates (side_text specs src)))) r
-    partial-is r e w h = told-whole specs name dst rhs (any (same name) (candidates (side_text specs src))) r (sym is-candidate ∙ e) w h
+  module _ (c : Captured) (is : g ≡ prelude.Some c) (b : Bool) (eb : b ≡ takes m.lhs m.rhs) where
+    pub hit-left : b ≡ false → Answers specs name m.dst m.rhs (hit_by (needle_meant (side_text specs m.src) m.lhs) name) prelude.None
+    hit-left e = rw (← eg, is) (go (is_star m.lhs) refl m.rhs (sym eb ∙ e))
+      where
+        go : (s : Bool) → is_star m.lhs ≡ s → (t : Target) → takes m.lhs t ≡ false → Answers specs name m.dst t (cond s (caught (part_at name c.from c.len)) whole) prelude.None
+        go s q target.Absent h = absurd (false≢true (sym h))
+        go true q (target.Pattern star) h = absurd (false≢true (sym h ∙ q))
+        go false q (target.Pattern star) h = record { meant = refl; within = tt }
+        go true q (target.Literal l) h = record { meant = refl; within = tt }
+        go false q (target.Literal l) h = absurd (false≢true (sym h ∙ ap not q))
 
-    -- none
-    pub partial-not : b ≡ false → Answers specs name dst rhs (whole_if (any (same name) (candidates (side_text specs src)))) ends.Nothing
-    partial-not e = told-miss specs name dst rhs (any (same name) (candidates (side_text specs src))) (sym is-candidate ∙ e)
-
--- ---- the arms of a `match` on what a source looks for
-
-module _ (src : Side) (lhs : Needle) (star : ℕ) (is : lhs ≡ needle.Glob star) where
-  -- its star stands in the source
-  pub needle-star-in : NeedleWithin src lhs → StarIn star src
-  needle-star-in h = rw is at h
-
-module _ (specs name : Text) (src : Side) (lhs : Needle) (dst : Side) (rhs : Target) where
-  pub forward-absent : lhs ≡ needle.Absent → Answers specs name dst rhs (hit_by (needle_meant (side_text specs src) lhs) name) ends.Nothing
-  forward-absent is = rw is (record { meant = refl; within = tt })
-
-  pub forward-object : lhs ≡ needle.Object → Answers specs name dst rhs (hit_by (needle_meant (side_text specs src) lhs) name) ends.Nothing
-  forward-object is = rw is (record { meant = refl; within = tt })
-
-  module _ (r : Ends) where
-    pub forward-glob : (star : ℕ) → lhs ≡ needle.Glob star → Answers specs name dst rhs (caught_by (capture (take star (side_text specs src)) (drop (suc star) (side_text specs src)) name)) r
-        → Answers specs name dst rhs (hit_by (needle_meant (side_text specs src) lhs) name) r
-    forward-glob star is h = rw is h
-
-    pub forward-full : lhs ≡ needle.FullName → Answers specs name dst rhs (whole_if (same (side_text specs src) name)) r → Answers specs name dst rhs (hit_by (needle_meant (side_text specs src) lhs) name) r
-    forward-full is h = rw is h
-
-    pub forward-partial : lhs ≡ needle.PartialName → Answers specs name dst rhs (whole_if (any (same name) (candidates (side_text specs src)))) r
-        → Answers specs name dst rhs (hit_by (needle_meant (side_text specs src) lhs) name) r
-    forward-partial is h = rw is h
+    pub hit-taken : b ≡ true → CaptureWithin (length name) g → Within (length specs) m.dst → TargetWithin m.dst m.rhs → Answers specs name m.dst m.rhs (hit_by (needle_meant (side_text specs m.src) m.lhs) name) (prelude.Some (forward_row m c))
+    hit-taken e l w h =
+        let f : c.from + c.len ≤ length name = rw is at l in
+        rw (← eg, is) (go (is_star m.lhs) refl m.rhs (sym eb ∙ e) h f)
+      where
+        go : (s : Bool) → is_star m.lhs ≡ s → (t : Target) → takes m.lhs t ≡ true → TargetWithin m.dst t → c.from + c.len ≤ length name
+            → Answers specs name m.dst t (cond s (caught (part_at name c.from c.len)) whole) (prelude.Some (record { source = row-text.Name; destination = destination_place m.dst t c }))
+        go true q target.Absent h u f = record { meant = refl; within = (tt, tt) }
+        go false q target.Absent h u f = record { meant = refl; within = (tt, tt) }
+        go true q (target.Pattern star) h u f = caught-answers specs name m.dst w (target.Pattern star) c.from c.len u f
+        go false q (target.Pattern star) h u f = absurd (false≢true (sym q ∙ h))
+        go true q (target.Literal l) h u f = absurd (false≢true (sym (ap not q) ∙ h))
+        go false q (target.Literal l) h u f = whole-answers specs name m.dst w (target.Literal l)
 
 -- ---- the spec
 
@@ -153,7 +139,7 @@ led-maps (caught u) t (target.Pattern star) c = refl
 led-maps (caught u) t (target.Literal l) c = refl
 
 -- the ends mean what the matcher's spec makes of the name
-pub forward-told : (specs name : Text) (m : Matcher) (r : Ends) → Answers specs name m.dst m.rhs (hit_by (needle_meant (side_text specs m.src) m.lhs) name) r
+pub forward-told : (specs name : Text) (m : Matcher) (r : prelude.Option Ends) → Answers specs name m.dst m.rhs (hit_by (needle_meant (side_text specs m.src) m.lhs) name) r
     → (s : Spec) → Matches specs s m → ends_meant specs name r ≡ forward_ends s name
 unfolding forward_ends forward
 forward-told specs name m r a s h =
@@ -164,3 +150,8 @@ forward-told specs name m r a s h =
     go : (o : Option Text) → maps_to (hit_by (map (needle_of (is_negative s.mode)) o) name) (map form_of s.destination) ≡ forward_by (is_negative s.mode) o s.destination name
     go none = refl
     go (some t) = refl
+
+-- so the ends are told in both ways
+pub forward-both : (specs name : Text) (m : Matcher) (r : prelude.Option Ends) → Answers specs name m.dst m.rhs (hit_by (needle_meant (side_text specs m.src) m.lhs) name) r
+    → Answers specs name m.dst m.rhs (hit_by (needle_meant (side_text specs m.src) m.lhs) name) r × ((s : Spec) → Matches specs s m → ends_meant specs name r ≡ forward_ends s name)
+forward-both specs name m r a = (a, λ s h. forward-told specs name m r a s h)

@@ -3,33 +3,21 @@ use mathlib.Core.Path.{◌≡◌, refl}
 use mathlib.Core.Bool.{Bool, true, false, cond}
 use mathlib.Core.List.{[], ◌++◌}
 use mathlib.Core.Option.{Option, none, some}
-use Prim.Native.Nat.{ℕ, zero, suc, ◌+◌, ◌≤◌, ◌<◌}
+use Prim.Native.Nat.{ℕ, zero, suc, ◌<◌}
 use native.Mathlib.Omega.{arith}
 use lib.ListN.{length}
 use Rattle.meaning.specs.Bytes.{Text, each}
 use Rattle.meaning.specs.Spec.{Spec}
 use Rattle.meaning.specs.Rows.{Row, row_bytes, row_list_of}
 use Rattle.meaning.specs.Listing.{Ends, name_row}
-use Rattle.buffer.specs.Splice.{splice}
-use Rattle.matcher.specs.declared.types.RowText.{RowText}
 use Rattle.matcher.specs.Matching.{object_ends, object_row_of}
 use Rattle.match_one.proofs.Objects.{object-rows}
-use Rattle.row.specs.Rows.{row_of_texts}
-use Rattle.match_row.specs.Pairs.{ends_in, row_unless, item_bytes, object_bytes, field_kind, field_row, given_row, field_bytes}
-use Rattle.match_row.specs.Asking.{Put}
+use Rattle.row.specs.declared.Kind.TheVariants as Kind-is
+use Rattle.match_row.specs.Pairs.{ends_in, row_unless, item_bytes, object_bytes, kind_at, field_row, given_row, field_bytes}
 
-pub kind-of-name : (field : ℕ) → (field ≡ 0 → ⊥) → 0 ≡ field_kind field
+pub kind-of-name : (field : ℕ) → (field ≡ 0 → ⊥) → Kind-is.Name ≡ kind_at field
 kind-of-name zero n = absurd (n refl)
 kind-of-name (suc j) n = refl
-
--- the row as it is put together
-module _ (specs name : Text) (i field kind : ℕ) (source destination : RowText) (e : kind ≡ field_kind field) (d : Text) (at : ℕ) where
-  pub field_room : at + length (row_bytes (row_of_texts specs name field i (field_kind field) source destination)) ≤ length d → at + length (row_bytes (row_of_texts specs name field i kind source destination)) ≤ length d
-  field_room h = rw e h
-
-  pub field_put : (o : Text) (n : ℕ) → o ≡ splice d at (row_bytes (row_of_texts specs name field i kind source destination)) → n ≡ at + length (row_bytes (row_of_texts specs name field i kind source destination))
-      → Put d at (row_bytes (row_of_texts specs name field i (field_kind field) source destination)) o n
-  field_put o n p q = record { puts = rw e at p; ends = rw e at q }
 
 -- a row that takes bytes is the one of its item field, whatever is gone
 pub pair-stands : (back : Bool) (gone : Text → Bool) (i j : ℕ) (name : Text) (s : Spec) → 0 < length (item_bytes back gone i j name s) → item_bytes back gone i j name s ≡ field_bytes back i (suc j) name s

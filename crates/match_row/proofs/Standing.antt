@@ -2,30 +2,31 @@
 use mathlib.Core.Path.{◌≡◌, refl, sym, ap, ◌∙◌, subst}
 use mathlib.Core.Bool.{Bool, true, false, false≢true}
 use mathlib.Core.List.{[], ◌∷◌, append-nil}
+use Rattle.std.specs.Prelude as prelude
 use mathlib.Core.Option.{Option, none, some}
 use Prim.Native.Nat.{ℕ, zero, suc, ◌+◌, ◌≤◌, ◌<◌}
 use native.Mathlib.Omega.{arith}
 use lib.ListN.{length}
+use Rattle.buffer.specs.Splice.{splice, Puts}
 use Rattle.meaning.specs.Bytes.{Text, each}
 use Rattle.meaning.specs.Spec.{Spec}
 use Rattle.meaning.specs.Rows.{row_bytes}
 use Rattle.meaning.specs.Listing as listing
 use Rattle.matcher.specs.declared.types.Matcher.{Matcher}
-use Rattle.matcher.specs.declared.types.RowText.{RowText}
 use Rattle.matcher.specs.declared.types.Ends.{Ends}
-use Rattle.matcher.specs.declared.types.Ends.TheVariants.{Nothing, Row as Found}
-use Rattle.matcher.specs.Matching.{ends_meant, RowTextWithin, EndsWithin, Matches, object_ends}
+use Rattle.matcher.specs.Matching.{ends_meant, RowEndsWithin, EndsWithin, Matches, object_ends}
 use Rattle.match_one.specs.Known.{KnownForward, KnownReverse}
-use Rattle.row.specs.Rows.{row_of_texts}
-use Rattle.match_row.specs.Pairs.{matcher_spec, field_ends, field_kind, given_row, field_bytes}
-use Rattle.match_row.specs.Asking.{MatcherReady, FieldTold, Put}
+use Rattle.row.specs.declared.Numbers.{Numbers}
+use Rattle.row.specs.Rows.{row_of_ends}
+use Rattle.match_row.specs.Pairs.{matcher_spec, field_ends, field_numbers, given_row, field_bytes}
+use Rattle.match_row.specs.Asking.{MatcherReady, NameTold, FieldTold}
 
 no_bytes : (t : Text) → length t ≡ 0 → t ≡ []
 no_bytes [] h = refl
 no_bytes (x ∷ t) h = absurd (omega arith)
 
 -- the ends by the item field
-module _ (back : Bool) (specs : Text) (m : Matcher) (ready : MatcherReady specs m) (field n : ℕ) (r : Ends) where
+module _ (back : Bool) (specs : Text) (m : Matcher) (ready : MatcherReady specs m) (field n : ℕ) (r : prelude.Option Ends) where
   pub field-object : field ≡ 0 → (field ≡ 0 → n ≡ 0) → ((s : Spec) → Matches specs s m → ends_meant specs [] r ≡ object_ends s) → EndsWithin (length specs) 0 r → FieldTold back specs m field n r
   field-object e h t w =
       let z = h e in
@@ -35,22 +36,23 @@ module _ (back : Bool) (specs : Text) (m : Matcher) (ready : MatcherReady specs 
         within = w;
       })
 
-  pub field_back : (field ≡ 0 → ⊥) → back ≡ true → KnownReverse specs m n r → FieldTold back specs m field n r
-  field_back d e k = go field d
+  pub field-name : (field ≡ 0 → ⊥) → NameTold back specs m n r → FieldTold back specs m field n r
+  field-name d k = go field d
     where
       go : (field : ℕ) → (field ≡ 0 → ⊥) → FieldTold back specs m field n r
       go zero d = absurd (d refl)
-      go (suc j) d = rw e (record { told = λ name l x p. k.meant name l (matcher_spec specs m) ready.matches x p ∙ p; within = k.within })
+      go (suc j) d = record { told = k.told; within = k.within }
 
-  pub field-on : (field ≡ 0 → ⊥) → back ≡ false → KnownForward specs m n r → FieldTold back specs m field n r
-  field-on d e k = go field d
-    where
-      go : (field : ℕ) → (field ≡ 0 → ⊥) → FieldTold back specs m field n r
-      go zero d = absurd (d refl)
-      go (suc j) d = rw e (record { told = λ name l x p. k.meant name l (matcher_spec specs m) ready.matches x p ∙ p; within = k.within })
+-- those of a name, in each direction
+module _ (specs : Text) (m : Matcher) (ready : MatcherReady specs m) (n : ℕ) (r : prelude.Option Ends) where
+  pub known-back : KnownReverse specs m n r → NameTold true specs m n r
+  known-back k = record { told = λ name l x p. k.meant name l (matcher_spec specs m) ready.matches x p ∙ p; within = k.within }
+
+  pub known-on : KnownForward specs m n r → NameTold false specs m n r
+  known-on k = record { told = λ name l x p. k.meant name l (matcher_spec specs m) ready.matches x p ∙ p; within = k.within }
 
 -- the row of these ends
-module _ (back : Bool) (specs name : Text) (m : Matcher) (i field : ℕ) (r : Ends) (t : FieldTold back specs m field (length name) r) (some_bytes : 0 < length (field_bytes back i field name (matcher_spec specs m))) where
+module _ (back : Bool) (specs name : Text) (m : Matcher) (i field : ℕ) (r : prelude.Option Ends) (t : FieldTold back specs m field (length name) r) (some_bytes : 0 < length (field_bytes back i field name (matcher_spec specs m))) where
   has-ends : (x : Option listing.Ends) → field_ends back (matcher_spec specs m) field name ≡ x → 0 < length (each (given_row i field x) row_bytes) → (e : listing.Ends) × (field_ends back (matcher_spec specs m) field name ≡ some e)
   has-ends none q p = absurd (omega arith)
   has-ends (some e) q p = (e, q)
@@ -70,25 +72,20 @@ module _ (back : Bool) (specs name : Text) (m : Matcher) (i field : ℕ) (r : En
       given (some x) = true
 
   -- there are some
-  pub field-some : r ≡ Nothing → ⊥
+  pub field-some : r ≡ prelude.None → ⊥
   field-some e = none-some ends.0 (ap (ends_meant specs name) (sym e) ∙ meant ∙ ends.1)
 
-  module _ (source destination : RowText) (is : r ≡ Found source destination) where
-    pub field_is : field_bytes back i field name (matcher_spec specs m) ≡ row_bytes (row_of_texts specs name field i (field_kind field) source destination)
-    unfolding field_bytes row_of_texts
-    field_is = rw (← meant, is) (append-nil _)
+  module _ (x : Ends) (is : r ≡ prelude.Some x) where
+    pub field-within : RowEndsWithin (length specs) (length name) x
+    field-within = subst (EndsWithin (length specs) (length name)) is t.within
 
-    both : EndsWithin (length specs) (length name) (Found source destination)
-    both = subst (EndsWithin (length specs) (length name)) is t.within
+    module _ (y : Numbers) (ey : y ≡ field_numbers i field) where
+      field_is : field_bytes back i field name (matcher_spec specs m) ≡ row_bytes (row_of_ends specs name y x)
+      unfolding field_bytes row_of_ends
+      field_is = rw (← meant, is, ey) (append-nil _)
 
-    pub field-source : RowTextWithin (length specs) (length name) source
-    field-source = both.0
+      pub stands-room : (d : Text) (at : ℕ) → at + length (field_bytes back i field name (matcher_spec specs m)) ≤ length d → at + length (row_bytes (row_of_ends specs name y x)) ≤ length d
+      stands-room d at h = rw field_is at h
 
-    pub field-destination : RowTextWithin (length specs) (length name) destination
-    field-destination = both.1
-
-    pub stands-room : (d : Text) (at : ℕ) → at + length (field_bytes back i field name (matcher_spec specs m)) ≤ length d → at + length (row_bytes (row_of_texts specs name field i (field_kind field) source destination)) ≤ length d
-    stands-room d at h = rw field_is at h
-
-    pub stands-put : (d : Text) (at : ℕ) (o : Text) (n : ℕ) → Put d at (row_bytes (row_of_texts specs name field i (field_kind field) source destination)) o n → Put d at (field_bytes back i field name (matcher_spec specs m)) o n
-    stands-put d at o n p = rw field_is p
+      pub stands-put : (d : Text) (at : ℕ) (o : Text) (n : ℕ) → o ≡ splice d at (row_bytes (row_of_ends specs name y x)) → n ≡ at + length (row_bytes (row_of_ends specs name y x)) → Puts d at (field_bytes back i field name (matcher_spec specs m)) o n
+      stands-put d at o n p q = rw field_is (p, q)

@@ -1,11 +1,11 @@
 -- What the functions of a pair ask and answer.
+use Rattle.std.specs.Prelude as prelude
 use Rattle.std.specs.Prelude.{ℕ, ◌+◌, ◌*◌, ◌≤◌, ◌<◌, ◌≡◌, Bool, List, length}
 use Rattle.std.proofs.Math.Option.{some}
 use Rattle.meaning.specs.Bytes.{Text}
 use Rattle.meaning.specs.Limits.{spec_list_bytes, spec_bytes}
 use Rattle.meaning.specs.Listing as listing
 use Rattle.parse.specs.Places.{side_meant}
-use Rattle.buffer.specs.Splice.{splice}
 use Rattle.matcher.specs.declared.types.Matcher.{Matcher}
 use Rattle.matcher.specs.declared.types.Ends.{Ends}
 use Rattle.matcher.specs.Matching.{ends_meant, EndsWithin, Matches}
@@ -24,16 +24,16 @@ pub record MatcherReady (specs : Text) (m : Matcher) : Type 0 where
   pub short : (t : Text) → side_meant specs m.src ≡ some t → length t ≤ spec_bytes
 
 -- the ends of a row, as the spec of a matcher makes them of a name
-pub record EndsTold (back : Bool) (specs name : Text) (m : Matcher) (e : Ends) : Type 0 where
+pub record EndsTold (back : Bool) (specs name : Text) (m : Matcher) (e : prelude.Option Ends) : Type 0 where
   pub told : ends_meant specs name e ≡ ends_in back (matcher_spec specs m) name
   pub within : EndsWithin (length specs) (length name) e
 
--- the ends of the row with this item field, of a name of so many bytes that has one
-pub record FieldTold (back : Bool) (specs : Text) (m : Matcher) (field n : ℕ) (e : Ends) : Type 0 where
-  pub told : (name : Text) → length name ≡ n → (r : listing.Ends) → field_ends back (matcher_spec specs m) field name ≡ some r → ends_meant specs name e ≡ some r
+-- the ends of the row of a name of so many bytes that has one
+pub record NameTold (back : Bool) (specs : Text) (m : Matcher) (n : ℕ) (e : prelude.Option Ends) : Type 0 where
+  pub told : (name : Text) → length name ≡ n → (r : listing.Ends) → ends_in back (matcher_spec specs m) name ≡ some r → ends_meant specs name e ≡ some r
   pub within : EndsWithin (length specs) n e
 
--- a text was written from a place on, and ends at another
-pub record Put (out : Text) (at : ℕ) (text : Text) (after : Text) (end : ℕ) : Type 0 where
-  pub puts : after ≡ splice out at text
-  pub ends : end ≡ at + length text
+-- the ends of the row with this item field, of a name of so many bytes that has one
+pub record FieldTold (back : Bool) (specs : Text) (m : Matcher) (field n : ℕ) (e : prelude.Option Ends) : Type 0 where
+  pub told : (name : Text) → length name ≡ n → (r : listing.Ends) → field_ends back (matcher_spec specs m) field name ≡ some r → ends_meant specs name e ≡ some r
+  pub within : EndsWithin (length specs) n e

@@ -38,6 +38,7 @@ fn text_removed(specs: &[u8], name: &[u8], source: RowText, negatives: &[u16], c
     requires { ShortTexts specs.now name.now × RowTextWithin (length specs.now) (length name.now) source × Askable specs.now negatives.now count × (length (or_empty (row_text_meant specs.now name.now source)) ≤ mapped_bytes) }
     ensures { result ≡ excluded_by specs.now negatives.now count (or_empty (row_text_meant specs.now name.now source)) }
 {
+    // As it is: (a) no heap, so there is room for the longest source.
     let mut scratch = [0; MAPPED_BYTES];
     put_removed(specs, name, source, negatives, count, &mut scratch)
 }
@@ -65,23 +66,18 @@ fn filled_removed(specs: &[u8], name: &[u8], f: Filled, negatives: &[u16], count
     requires { FilledWithin (length specs.now) (length name.now) f × ShortTexts specs.now name.now × Askable specs.now negatives.now count }
     ensures { result ≡ excluded_by specs.now negatives.now count (filled_text specs.now name.now f) }
 {
-    let start = f.start;
-    let start_end = start + f.start_len;
-    let from = f.from;
-    let capture_end = from + f.len;
-    let end = f.end;
-    let end_end = end + f.end_len;
     excluded_pieces(
         specs,
         negatives,
         count,
-        &specs[start..start_end],
-        &name[from..capture_end],
-        &specs[end..end_end],
+        &specs[f.start..f.start + f.start_len],
+        &name[f.from..f.from + f.len],
+        &specs[f.end..f.end + f.end_len],
     )
 }
 
-// A negative matches the source of a row.
+// A negative matches the source of a row. Inlined: most groups have none.
+#[inline(always)]
 pub(crate) fn removed(
     specs: &[u8],
     name: &[u8],

@@ -2,63 +2,37 @@
 // `match_lhs` and `match_rhs` do with one spec and one item in the crate's match_group/mod.rs.
 #![tactic(auto)]
 
-ghost use Rattle.std.specs.Prelude.{◌≡◌, [], ◌+◌, ◌≤◌, ◌<◌, length};
-ghost use Rattle.meaning.specs.Bytes.{or_empty};
-ghost use Rattle.meaning.specs.Limits.{item_count, spec_count, name_bytes, mapped_bytes};
-ghost use Rattle.meaning.specs.Rows.{row_bytes};
-ghost use Rattle.matcher.specs.Matching.{row_text_meant, RowTextWithin};
+ghost use Rattle.std.specs.Prelude.{◌≡◌, ◌+◌, ◌≤◌, ◌<◌, length};
+ghost use Rattle.meaning.specs.Limits.{item_count, spec_count, name_bytes};
 ghost use Rattle.negatives.specs.Negatives.{excluded_by};
-ghost use Rattle.row.specs.Rows.{ShortTexts, row_of_texts, row_most};
-ghost use Rattle.match_row.specs.Pairs.{matcher_spec, item_bytes, object_bytes, field_kind, field_bytes, remaining_bytes};
-ghost use Rattle.match_row.specs.Asking.{Askable, MatcherReady, EndsTold, FieldTold, Put};
+ghost use Rattle.row.specs.Rows.{row_most};
+ghost use Rattle.match_row.specs.Pairs.{matcher_spec, item_bytes, object_bytes, field_numbers, field_bytes};
+ghost use Rattle.buffer.specs.Splice.{RoomFor, Puts};
+ghost use Rattle.match_row.specs.Asking.{Askable, MatcherReady, FieldTold};
 
+pub mod direction;
 mod gone;
 
+use direction::Direction;
 use gone::removed;
-use match_one::{forward, known_forward, known_reverse, object, reverse};
-use matcher::types::{Ends, Matcher, RowText};
-use row::{Numbers, put_row, row_size};
+use match_one::object;
+use matcher::types::{Ends, Matcher};
+use row::{Kind, Numbers, put_row, row_size};
 
-// The ends that a spec makes of a name, forward or in reverse.
-fn ends(back: bool, specs: &[u8], m: Matcher, name: &[u8]) -> Ends
-    requires { MatcherReady specs.now m }
-    ensures { EndsTold back specs.now name.now m result }
+// The numbers of a row of spec i with this item field: 0 stands for no item, and the source is then an object.
+fn numbers(i: usize, field: usize) -> Numbers
+    ensures { result ≡ field_numbers i field }
 {
-    if back {
-        return reverse(specs, m, name);
-    }
-    forward(specs, m, name)
-}
-
-// How many bytes the row of item j under spec i takes, unless a negative removes it.
-fn kept_size(
-    specs: &[u8],
-    name: &[u8],
-    i: usize,
-    j: usize,
-    source: RowText,
-    destination: RowText,
-    negatives: &[u16],
-    count: usize,
-) -> usize
-    requires { ShortTexts specs.now name.now × Askable specs.now negatives.now count × (i ≤ spec_count) × (j < item_count) × RowTextWithin (length specs.now) (length name.now) source × RowTextWithin (length specs.now) (length name.now) destination × (length (or_empty (row_text_meant specs.now name.now source)) ≤ mapped_bytes) }
-    ensures { (result ≡ length (remaining_bytes (excluded_by specs.now negatives.now count) i j specs.now name.now source destination)) × (result ≤ row_most) }
-{
-    if removed(specs, name, source, negatives, count) {
-        return 0;
-    }
-    let item = j + 1;
-    let numbers = Numbers {
-        item,
+    let kind = if field == 0 { Kind::Object } else { Kind::Name };
+    Numbers {
+        item: field,
         spec: i,
-        kind: 0,
-    };
-    row_size(specs, name, numbers, source, destination)
+        kind,
+    }
 }
 
 // How many bytes item j takes under spec i.
-pub fn item_size(
-    back: bool,
+pub fn item_size<D: Direction>(
     specs: &[u8],
     m: Matcher,
     i: usize,
@@ -68,28 +42,17 @@ pub fn item_size(
     count: usize,
 ) -> usize
     requires { MatcherReady specs.now m × Askable specs.now negatives.now count × (i ≤ spec_count) × (j < item_count) × (length name.now ≤ name_bytes) }
-    ensures { (result ≡ length (item_bytes back (excluded_by specs.now negatives.now count) i j name.now (matcher_spec specs.now m))) × (result ≤ row_most) }
+    ensures { (result ≡ length (item_bytes D.back (excluded_by specs.now negatives.now count) i j name.now (matcher_spec specs.now m))) × (result ≤ row_most) }
 {
-    match ends(back, specs, m, name) {
-        Ends::Nothing => 0,
-        Ends::Row {
-            source,
-            destination,
-        } => kept_size(specs, name, i, j, source, destination, negatives, count),
-    }
-}
-
-// How many bytes the row of an object source of spec i takes that has these texts.
-fn object_row_size(specs: &[u8], i: usize, source: RowText, destination: RowText) -> usize
-    requires { ShortTexts specs.now [] × (i ≤ spec_count) × RowTextWithin (length specs.now) 0 source × RowTextWithin (length specs.now) 0 destination }
-    ensures { (result ≡ length (row_bytes (row_of_texts specs.now [] 0 i 1 source destination))) × (result ≤ row_most) }
-{
-    let numbers = Numbers {
-        item: 0,
-        spec: i,
-        kind: 1,
+    // Most names are not matched, and no ends are made of these.
+    let Some(c) = D::hit(specs, m, name) else {
+        return 0;
     };
-    row_size(specs, &specs[..0], numbers, source, destination)
+    let e = D::made(specs, m, c);
+    if removed(specs, name, e.source, negatives, count) {
+        return 0;
+    }
+    row_size(specs, name, numbers(i, j + 1), e)
 }
 
 // How many bytes the row of spec i takes as an object source; any other spec has none.
@@ -98,79 +61,38 @@ pub fn object_size(specs: &[u8], m: Matcher, i: usize) -> usize
     ensures { (result ≡ length (object_bytes i (matcher_spec specs.now m))) × (result ≤ row_most) }
 {
     match object(specs, m) {
-        Ends::Nothing => 0,
-        Ends::Row {
-            source,
-            destination,
-        } => object_row_size(specs, i, source, destination),
+        None => 0,
+        Some(e) => row_size(specs, &[], numbers(i, 0), e),
     }
 }
 
 // The ends of the row with this item field, of a name of n bytes that has one.
-fn field_ends(back: bool, specs: &[u8], m: Matcher, field: usize, n: usize) -> Ends
+fn field_ends<D: Direction>(specs: &[u8], m: Matcher, field: usize, n: usize) -> Option<Ends>
     requires { MatcherReady specs.now m × (n ≤ name_bytes) × (field ≡ 0 → n ≡ 0) }
-    ensures { FieldTold back specs.now m field n result }
+    ensures { FieldTold D.back specs.now m field n result }
 {
     if field == 0 {
-        return object(specs, m);
+        object(specs, m)
+    } else {
+        D::known_ends(specs, m, n)
     }
-    if back {
-        return known_reverse(specs, m, n);
-    }
-    known_forward(specs, m, n)
-}
-
-// The source kind of a row by its item field.
-fn kind_of(field: usize) -> usize
-    ensures { (result ≡ field_kind field) × (result ≤ 1) }
-{
-    if field == 0 {
-        return 1;
-    }
-    0
-}
-
-// Writes the row of spec i with this item field and these texts, and answers the place after it.
-fn put_ends(
-    out: &mut [u8],
-    at: usize,
-    specs: &[u8],
-    name: &[u8],
-    i: usize,
-    field: usize,
-    source: RowText,
-    destination: RowText,
-) -> usize
-    requires { ShortTexts specs.now name.now × (i ≤ spec_count) × (field ≤ item_count) × RowTextWithin (length specs.now) (length name.now) source × RowTextWithin (length specs.now) (length name.now) destination × (at + length (row_bytes (row_of_texts specs.now name.now field i (field_kind field) source destination)) ≤ length out.old) }
-    ensures { Put out.old at (row_bytes (row_of_texts specs.now name.now field i (field_kind field) source destination)) out.new result }
-{
-    let numbers = Numbers {
-        item: field,
-        spec: i,
-        kind: kind_of(field),
-    };
-    put_row(out, at, specs, name, numbers, source, destination)
 }
 
 // Writes the row of spec i with this item field, which there is, and answers the place after it.
-pub fn put_field(
+pub fn put_field<D: Direction>(
     out: &mut [u8],
     at: usize,
-    back: bool,
     specs: &[u8],
     m: Matcher,
     i: usize,
     field: usize,
     name: &[u8],
 ) -> usize
-    requires { MatcherReady specs.now m × (i ≤ spec_count) × (field ≤ item_count) × (length name.now ≤ name_bytes) × (field ≡ 0 → length name.now ≡ 0) × (0 < length (field_bytes back i field name.now (matcher_spec specs.now m))) × (at + length (field_bytes back i field name.now (matcher_spec specs.now m)) ≤ length out.old) }
-    ensures { Put out.old at (field_bytes back i field name.now (matcher_spec specs.now m)) out.new result }
+    requires { MatcherReady specs.now m × (i ≤ spec_count) × (field ≤ item_count) × (length name.now ≤ name_bytes) × (field ≡ 0 → length name.now ≡ 0) × (0 < length (field_bytes D.back i field name.now (matcher_spec specs.now m))) × RoomFor out.old at (field_bytes D.back i field name.now (matcher_spec specs.now m)) }
+    ensures { Puts out.old at (field_bytes D.back i field name.now (matcher_spec specs.now m)) out.new result }
 {
-    match field_ends(back, specs, m, field, name.len()) {
-        Ends::Nothing => at,
-        Ends::Row {
-            source,
-            destination,
-        } => put_ends(out, at, specs, name, i, field, source, destination),
+    match field_ends::<D>(specs, m, field, name.len()) {
+        None => at,
+        Some(e) => put_row(out, at, specs, name, numbers(i, field), e),
     }
 }

@@ -78,19 +78,15 @@ module _ (negative : Bool) (t : Text) (k : ℕ) (ek : k ≡ first_at star t) whe
         unfolding plain_needle
         needle-partial e = record { meant = ap some (sym (plain ∙ rw (positive, sym er ∙ n, sym eo ∙ e))); starred = tt }
 
--- `&specs[at..at + n]` is the part
-pub needle-part : (specs : Text) (negative : Bool) (at n : ℕ) (r : Needle) → NeedleOf negative (take (at + n - at) (drop at specs)) r → NeedleOf negative (part_at specs at n) r
-needle-part specs negative at n r h = rw part_of at h
-
 -- `HEAD`
-module _ (specs : Text) (negative : Bool) where
-  pub head-negative : negative ≡ true → NeedleFor specs negative side.Head needle.FullName
+module _ (specs : Text) (negative : Bool) (s : Side) (is : s ≡ side.Head) where
+  pub head-negative : negative ≡ true → NeedleFor specs negative s needle.FullName
   unfolding needle_of form_of starred plain_needle
-  head-negative e = record { meant = rw e; within = tt }
+  head-negative e = rw is (record { meant = rw e; within = tt })
 
-  pub head-partial : negative ≡ false → NeedleFor specs negative side.Head needle.PartialName
+  pub head-partial : negative ≡ false → NeedleFor specs negative s needle.PartialName
   unfolding needle_of form_of starred plain_needle object_id
-  head-partial e = record { meant = rw e; within = tt }
+  head-partial e = rw is (record { meant = rw e; within = tt })
 
 -- a needle's star in a part
 needle-within : (at n : ℕ) (r : Needle) → NeedleStar n r → NeedleWithin (side.Part at n) r
@@ -100,15 +96,12 @@ needle-within at n needle.FullName h = tt
 needle-within at n needle.Object h = tt
 needle-within at n needle.PartialName h = tt
 
--- the arms of a `match` on a source
-module _ (specs : Text) (negative : Bool) (s : Side) where
-  pub needle-side : (at n : ℕ) (r : Needle) → s ≡ side.Part at n → Within (length specs) s → NeedleOf negative (part_at specs at n) r → NeedleFor specs negative s r
-  needle-side at n r e w h =
-      let l : at + n ≤ length specs = rw e at w in
-      rw e (record { meant = h.meant; within = needle-within at n r (rw (part_length specs at n l) at h.starred) })
-
-  pub needle-head : (r : Needle) → s ≡ side.Head → NeedleFor specs negative side.Head r → NeedleFor specs negative s r
-  needle-head r e h = rw e h
+-- the arm of a `match` on a source that is a part, as it is lent
+pub needle-side : (specs : Text) (negative : Bool) (s : Side) (at n : ℕ) (r : Needle) → s ≡ side.Part at n → Within (length specs) s → NeedleOf negative (take (at + n - at) (drop at specs)) r → NeedleFor specs negative s r
+needle-side specs negative s at n r e w h =
+    let l : at + n ≤ length specs = rw e at w in
+    let p : NeedleOf negative (part_at specs at n) r = rw part_of at h in
+    rw e (record { meant = p.meant; within = needle-within at n r (rw (part_length specs at n l) at p.starred) })
 
 -- ---- a destination
 
@@ -146,10 +139,6 @@ module _ (t : Text) (k : ℕ) (ek : k ≡ first_at star t) where
   pub target-literal : k ≤ length t → length t ≤ k → (l : Lead) → LeadOf t l → TargetOf t (target.Literal l)
   target-literal u v l h = record { meant = rw (form-none t k ek u v); completes = h.completes; digits = h.digits; starred = tt }
 
--- `&specs[at..at + n]` is the part
-pub target-part : (specs : Text) (at n : ℕ) (r : Target) → TargetOf (take (at + n - at) (drop at specs)) r → TargetOf (part_at specs at n) r
-target-part specs at n r h = rw part_of at h
-
 -- a target's star in a part
 target-within : (at n : ℕ) (r : Target) → TargetStar n r → TargetWithin (side.Part at n) r
 target-within at n target.Absent h = tt
@@ -158,10 +147,12 @@ target-within at n (target.Literal l) h = tt
 
 -- the arms of a `match` on a destination
 module _ (specs : Text) (s : Side) where
-  pub target-side : (at n : ℕ) (r : Target) → s ≡ side.Part at n → Within (length specs) s → TargetOf (part_at specs at n) r → TargetFor specs s r
+  -- a part as it is lent
+  pub target-side : (at n : ℕ) (r : Target) → s ≡ side.Part at n → Within (length specs) s → TargetOf (take (at + n - at) (drop at specs)) r → TargetFor specs s r
   target-side at n r e w h =
       let l : at + n ≤ length specs = rw e at w in
-      rw e (record { meant = h.meant; completes = h.completes; digits = h.digits; within = target-within at n r (rw (part_length specs at n l) at h.starred) })
+      let p : TargetOf (part_at specs at n) r = rw part_of at h in
+      rw e (record { meant = p.meant; completes = p.completes; digits = p.digits; within = target-within at n r (rw (part_length specs at n l) at p.starred) })
 
   pub target-head : s ≡ side.Head → TargetFor specs s (target.Literal lead.Heads)
   unfolding form_of starred completed object_id

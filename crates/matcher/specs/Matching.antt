@@ -1,5 +1,6 @@
 -- A spec as a matcher, what it makes of a name as places, and the meaning's needles, forms and ends that these denote.
-use Rattle.std.specs.Prelude.{ℕ, suc, ◌+◌, ◌≤◌, ◌<◌, ◌≡◌, List, [], ◌∷◌, ◌++◌, length, take, drop}
+use Rattle.std.specs.Prelude as prelude
+use Rattle.std.specs.Prelude.{ℕ, suc, ◌+◌, ◌≤◌, ◌<◌, ◌≡◌, Bool, true, false, List, [], ◌∷◌, ◌++◌, length, take, drop}
 use Rattle.std.proofs.Math.Option.{Option, none, some, map}
 use Rattle.meaning.specs.Bytes.{Text, bytes, or_empty, lower}
 use Rattle.meaning.specs.Spec.{Spec, is_negative}
@@ -22,7 +23,6 @@ use Rattle.matcher.specs.declared.types.Filled.{Filled}
 use Rattle.matcher.specs.declared.types.RowText.{RowText}
 use Rattle.matcher.specs.declared.types.RowText.TheVariants as row-text
 use Rattle.matcher.specs.declared.types.Ends.{Ends}
-use Rattle.matcher.specs.declared.types.Ends.TheVariants as ends
 
 -- a text that is led
 abbrev pub led_text : Lead → Text → Text
@@ -31,6 +31,30 @@ led_text lead.Refs t = bytes "refs/" ++ t
 led_text lead.Heads t = bytes "refs/heads/" ++ t
 led_text lead.HeadsDigits t = bytes "refs/heads/" ++ lower t
 led_text lead.Digits t = lower t
+
+-- the bytes that lead a literal
+abbrev pub lead_bytes : Lead → Text
+lead_bytes lead.AsIs = []
+lead_bytes lead.Refs = bytes "refs/"
+lead_bytes lead.Heads = bytes "refs/heads/"
+lead_bytes lead.HeadsDigits = bytes "refs/heads/"
+lead_bytes lead.Digits = []
+
+-- what is led stands in lower case
+abbrev pub lowers : Lead → Bool
+lowers lead.AsIs = false
+lowers lead.Refs = false
+lowers lead.Heads = false
+lowers lead.HeadsDigits = true
+lowers lead.Digits = true
+
+-- the bytes that are led
+abbrev pub body_bytes : Lead → Text → Text
+body_bytes lead.AsIs t = t
+body_bytes lead.Refs t = t
+body_bytes lead.Heads t = t
+body_bytes lead.HeadsDigits t = lower t
+body_bytes lead.Digits t = lower t
 
 -- a pattern with the capture for its star, by the bytes of the spec list and the name
 abbrev pub filled_text : Text → Text → Filled → Text
@@ -43,10 +67,10 @@ row_text_meant specs name row-text.Name = some name
 row_text_meant specs name (row-text.Led l s) = some (led_text l (side_text specs s))
 row_text_meant specs name (row-text.Filled f) = some (filled_text specs name f)
 
--- the ends of a row
-abbrev pub ends_meant : Text → Text → Ends → Option listing.Ends
-ends_meant specs name ends.Nothing = none
-ends_meant specs name (ends.Row source destination) = some (record { source = or_empty (row_text_meant specs name source); destination = row_text_meant specs name destination })
+-- the ends of a row, if there is one
+abbrev pub ends_meant : Text → Text → prelude.Option Ends → Option listing.Ends
+ends_meant specs name prelude.None = none
+ends_meant specs name (prelude.Some e) = some (record { source = or_empty (row_text_meant specs name e.source); destination = row_text_meant specs name e.destination })
 
 -- what a source whose text is t looks for
 abbrev pub needle_meant : Text → Needle → Option meaning.Needle
@@ -82,9 +106,13 @@ RowTextWithin len name_len (row-text.Led l s) = Within len s
 RowTextWithin len name_len (row-text.Filled f) = FilledWithin len name_len f
 
 -- the places of a row's ends
-abbrev pub EndsWithin : ℕ → ℕ → Ends → Type 0
-EndsWithin len name_len ends.Nothing = Unit {0}
-EndsWithin len name_len (ends.Row source destination) = RowTextWithin len name_len source × RowTextWithin len name_len destination
+abbrev pub RowEndsWithin : ℕ → ℕ → Ends → Type 0
+RowEndsWithin len name_len e = RowTextWithin len name_len e.source × RowTextWithin len name_len e.destination
+
+-- those of the ends of a row, if there is one
+abbrev pub EndsWithin : ℕ → ℕ → prelude.Option Ends → Type 0
+EndsWithin len name_len prelude.None = Unit {0}
+EndsWithin len name_len (prelude.Some e) = RowEndsWithin len name_len e
 
 -- a star stands in a side, which is then a part of the spec list
 abbrev pub StarIn : ℕ → Side → Type 0

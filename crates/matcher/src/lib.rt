@@ -9,7 +9,7 @@ pub mod needle;
 pub mod types;
 
 use needle::{needle_of, target_of};
-use parse::types::{RefSpec, is_negative};
+use parse::types::RefSpec;
 use types::Matcher;
 
 // The matcher of a spec that was read.
@@ -17,10 +17,10 @@ pub fn matcher(specs: &[u8], r: RefSpec) -> Matcher
     requires { SidesWithin (length specs.now) r }
     ensures { (result.src ≡ r.src) × (result.dst ≡ r.dst) × Matches specs.now (spec_meant specs.now r) result }
 {
-    let mode = r.mode;
-    let src = r.src;
-    let dst = r.dst;
-    let lhs = needle_of(specs, is_negative(mode), src);
-    let rhs = target_of(specs, dst);
-    Matcher { src, lhs, dst, rhs }
+    Matcher {
+        src: r.src,
+        lhs: needle_of(specs, r.mode.is_negative(), r.src),
+        dst: r.dst,
+        rhs: target_of(specs, r.dst),
+    }
 }

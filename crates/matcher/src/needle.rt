@@ -1,7 +1,7 @@
 // What the sides of a spec are: what a source looks for, and how a destination is completed.
-ghost use Rattle.std.specs.Prelude.{◌≡◌, ◌+◌, ◌≤◌, length};
+ghost use Rattle.std.specs.Prelude.{◌+◌, length};
 ghost use Rattle.parse.specs.declared.types.Side.TheVariants.{Head};
-ghost use Rattle.parse.specs.Places.{part_at, Within};
+ghost use Rattle.parse.specs.Places.{Within};
 ghost use Rattle.matcher.specs.Sides.{NeedleOf, NeedleFor, LeadOf, TargetOf, TargetFor};
 
 use super::types::{Lead, Needle, Target};
@@ -11,39 +11,16 @@ use parse::types::Side;
 fn text_needle(negative: bool, t: &[u8]) -> Needle
     ensures { NeedleOf negative t.now result }
 {
-    let star = text::find(b'*', t);
-    if star < t.len() {
+    if let Some(star) = text::find(b'*', t) {
         return Needle::Glob(star);
     }
-    if negative {
-        return Needle::FullName;
+    if negative || compare::begins(b"refs/", t) {
+        Needle::FullName
+    } else if hex_digits::object_id(t) {
+        Needle::Object
+    } else {
+        Needle::PartialName
     }
-    if compare::begins(b"refs/", t) {
-        return Needle::FullName;
-    }
-    if hex_digits::object_id(t) {
-        return Needle::Object;
-    }
-    Needle::PartialName
-}
-
-// What the source looks for whose n bytes begin at `at`.
-fn part_needle(specs: &[u8], negative: bool, at: usize, n: usize) -> Needle
-    requires { at + n ≤ length specs.now }
-    ensures { NeedleOf negative (part_at specs.now at n) result }
-{
-    let end = at + n;
-    text_needle(negative, &specs[at..end])
-}
-
-// What `HEAD` looks for.
-fn head_needle(specs: &[u8], negative: bool) -> Needle
-    ensures { NeedleFor specs.now negative Head result }
-{
-    if negative {
-        return Needle::FullName;
-    }
-    Needle::PartialName
 }
 
 // What a source looks for.
@@ -53,8 +30,9 @@ pub(crate) fn needle_of(specs: &[u8], negative: bool, side: Side) -> Needle
 {
     match side {
         Side::Absent => Needle::Absent,
-        Side::Part(at, n) => part_needle(specs, negative, at, n),
-        Side::Head => head_needle(specs, negative),
+        Side::Part(at, n) => text_needle(negative, &specs[at..at + n]),
+        Side::Head if negative => Needle::FullName,
+        Side::Head => Needle::PartialName,
     }
 }
 
@@ -63,39 +41,24 @@ fn lead_of(t: &[u8]) -> Lead
     ensures { LeadOf t.now result }
 {
     if compare::begins(b"refs/", t) {
-        return Lead::AsIs;
+        Lead::AsIs
+    } else if hex_digits::object_id(t) {
+        Lead::HeadsDigits
+    } else if compare::begins(b"tags/", t) || compare::begins(b"remotes/", t) {
+        Lead::Refs
+    } else {
+        Lead::Heads
     }
-    if hex_digits::object_id(t) {
-        return Lead::HeadsDigits;
-    }
-    if compare::begins(b"tags/", t) {
-        return Lead::Refs;
-    }
-    if compare::begins(b"remotes/", t) {
-        return Lead::Refs;
-    }
-    Lead::Heads
 }
 
 // What a destination is, by its text.
 fn text_target(t: &[u8]) -> Target
     ensures { TargetOf t.now result }
 {
-    let star = text::find(b'*', t);
-    if star < t.len() {
-        return Target::Pattern(star);
+    match text::find(b'*', t) {
+        Some(star) => Target::Pattern(star),
+        None => Target::Literal(lead_of(t)),
     }
-    let lead = lead_of(t);
-    Target::Literal(lead)
-}
-
-// What the destination is whose n bytes begin at `at`.
-fn part_target(specs: &[u8], at: usize, n: usize) -> Target
-    requires { at + n ≤ length specs.now }
-    ensures { TargetOf (part_at specs.now at n) result }
-{
-    let end = at + n;
-    text_target(&specs[at..end])
 }
 
 // What a destination is.
@@ -105,7 +68,7 @@ pub fn target_of(specs: &[u8], side: Side) -> Target
 {
     match side {
         Side::Absent => Target::Absent,
-        Side::Part(at, n) => part_target(specs, at, n),
+        Side::Part(at, n) => text_target(&specs[at..at + n]),
         Side::Head => Target::Literal(Lead::Heads),
     }
 }

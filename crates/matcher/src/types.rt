@@ -1,7 +1,11 @@
 // What one spec looks for and what it makes of a name, as places. Port of the crate's match_group types.rs and of the types in util.rs.
+ghost use Rattle.std.specs.Prelude.{◌≡◌};
+ghost use Rattle.matcher.specs.Matching.{lead_bytes, lowers};
+
 use parse::types::Side;
 
 // What a source looks for.
+// As it is: (d) `Absent` is one of several cases; an Option around the others would add a layer to each match, as in `Some(Needle::Glob(star))`.
 #[derive(Clone, Copy)]
 pub enum Needle {
     // Nothing: there is no source.
@@ -31,7 +35,28 @@ pub enum Lead {
     Digits,
 }
 
+impl Lead {
+    // The bytes that lead.
+    pub fn bytes(self) -> &'static [u8]
+        ensures { result.now ≡ lead_bytes self }
+    {
+        match self {
+            Lead::AsIs | Lead::Digits => b"",
+            Lead::Refs => b"refs/",
+            Lead::Heads | Lead::HeadsDigits => b"refs/heads/",
+        }
+    }
+
+    // What is led stands in lower case.
+    pub fn lowers(self) -> bool
+        ensures { result ≡ lowers self }
+    {
+        matches!(self, Lead::HeadsDigits | Lead::Digits)
+    }
+}
+
 // A destination.
+// As it is: (d) `Absent` is one of several cases; an Option around the others would add a layer to each match, as in `Some(Target::Pattern(star))`.
 #[derive(Clone, Copy)]
 pub enum Target {
     // There is none.
@@ -63,6 +88,7 @@ pub struct Filled {
 }
 
 // A text that a match makes.
+// As it is: (d) `Absent` is one of several cases; an Option around the others would add a layer to each match, as in `Some(RowText::Led(lead, side))`.
 #[derive(Clone, Copy)]
 pub enum RowText {
     // There is none.
@@ -75,12 +101,9 @@ pub enum RowText {
     Filled(Filled),
 }
 
-// The ends of a row, or that there is none.
+// The ends of a row.
 #[derive(Clone, Copy)]
-pub enum Ends {
-    Nothing,
-    Row {
-        source: RowText,
-        destination: RowText,
-    },
+pub struct Ends {
+    pub source: RowText,
+    pub destination: RowText,
 }

@@ -15,9 +15,11 @@ use Rattle.parse.specs.declared.types.Side.{Side}
 use Rattle.matcher.specs.declared.types.Needle.{Needle}
 use Rattle.matcher.specs.declared.types.Target.{Target}
 use Rattle.matcher.specs.declared.types.Matcher.{Matcher}
-use Rattle.sides.specs.Numbers.{side_from, side_kind, side_at, side_len}
+use Rattle.sides.specs.declared.SideNumbers.{SideNumbers}
+use Rattle.sides.specs.Sides.{side_of}
+use Rattle.sides.specs.Numbers.{side_from, side_kind}
 use Rattle.sides.proofs.Told.{side-told}
-use Rattle.matcher_table.specs.Numbers.{matcher_numbers, needle_from, target_from, matcher_at, PutMatcher, needle_kind, needle_star, target_kind, target_number, source_numbers, destination_numbers}
+use Rattle.matcher_table.specs.Numbers.{matcher_numbers, needle_from, target_from, matcher_at, PutMatcher, needle_kind, needle_star, target_kind, target_number, half_numbers, source_numbers, destination_numbers}
 use Rattle.matcher_table.proofs.Told.{needle-told, target_told}
 
 -- ---- numbers stored one after the other
@@ -56,16 +58,6 @@ module _ (t : Text) (i a b c d e : ℕ) (h : i + 5 ≤ length t) where
 
   pub fifth-room : i + 4 < length (set (set (set (set t i a) (i + 1) b) (i + 2) c) (i + 3) d)
   fifth-room = simp length-set (omega arith)
-
--- ---- the numbers of a side stored
-module _ (t v : Text) (i a b c d e : ℕ) (h : v ≡ splice t i (a ∷ b ∷ c ∷ d ∷ e ∷ [])) (s : Side) (ea : a ≡ side_kind s) (eb : b ≡ side_at s) (ec : c ≡ side_len s) where
-  pub source-stored : (n : Needle) → d ≡ needle_kind n → e ≡ needle_star n → v ≡ splice t i (source_numbers s n)
-  unfolding source_numbers
-  source-stored n ed ee = rw (ea, eb, ec, ed, ee) at h
-
-  pub destination-stored : (r : Target) → d ≡ target_kind r → e ≡ target_number r → v ≡ splice t i (destination_numbers s r)
-  unfolding destination_numbers
-  destination-stored r ed ee = rw (ea, eb, ec, ed, ee) at h
 
 source-five : (s : Side) (n : Needle) → length (source_numbers s n) ≡ 5
 unfolding source_numbers
@@ -147,21 +139,24 @@ module _ (t : Text) (k : ℕ) (m : Matcher) where
     stored-ten = let z = ten-long in record { written = refl; size = length-splice t (matcher_numbers * k) ten (omega arith); kept = stored-kept; there = stored_there }
 
   -- both fives tell the matcher, and the others stay
-  pub stored : matcher_numbers * k + matcher_numbers ≤ length t → (u v : Text) → u ≡ splice t (matcher_numbers * k) source → v ≡ splice u (matcher_numbers * k + 5) destination → PutMatcher t k m v
-  stored h u v e f = rw (after_is h u v e f) (stored-ten h)
+  pub stored : matcher_numbers * k + matcher_numbers ≤ length t → (u v : Text) (a b c d : ℕ) → a ≡ needle_kind m.lhs → b ≡ needle_star m.lhs → c ≡ target_kind m.rhs → d ≡ target_number m.rhs
+      → u ≡ splice t (matcher_numbers * k) (half_numbers m.src a b) → v ≡ splice u (matcher_numbers * k + 5) (half_numbers m.dst c d) → PutMatcher t k m v
+  unfolding source_numbers destination_numbers
+  stored h u v a b c d ea eb ec ed e f = rw (after_is h u v (rw (ea, eb) at e) (rw (ec, ed) at f)) (stored-ten h)
 
 -- the ten numbers of number k tell the matcher
-pub numbers-tell : (t : List ℕ) (k : ℕ) (s d : Side) (n : Needle) (r : Target) (x2 x3 x5 x7 x8 x10 : ℕ)
-    → s ≡ side_from (get_or t (matcher_numbers * k) 0) x2 x3
+pub numbers-tell : (t : List ℕ) (k : ℕ) (s d : Side) (n : Needle) (r : Target) (p q : SideNumbers) (x5 x10 : ℕ)
+    → s ≡ side_of p
+    → side_of p ≡ side_from (get_or t (matcher_numbers * k) 0) (get_or t (matcher_numbers * k + 1) 0) (get_or t (matcher_numbers * k + 2) 0)
     → n ≡ needle_from (get_or t (matcher_numbers * k + 3) 0) x5
-    → d ≡ side_from (get_or t (matcher_numbers * k + 5) 0) x7 x8
+    → d ≡ side_of q
+    → side_of q ≡ side_from (get_or t (matcher_numbers * k + 5) 0) (get_or t (matcher_numbers * k + 5 + 1) 0) (get_or t (matcher_numbers * k + 5 + 2) 0)
     → r ≡ target_from (get_or t (matcher_numbers * k + 8) 0) x10
-    → x2 ≡ get_or t (matcher_numbers * k + 1) 0
-    → x3 ≡ get_or t (matcher_numbers * k + 2) 0
     → x5 ≡ get_or t (matcher_numbers * k + 4) 0
-    → x7 ≡ get_or t (matcher_numbers * k + 6) 0
-    → x8 ≡ get_or t (matcher_numbers * k + 7) 0
     → x10 ≡ get_or t (matcher_numbers * k + 9) 0
     → record { src = s; lhs = n; dst = d; rhs = r } ≡ matcher_at t k
 unfolding matcher_at
-numbers-tell t k s d n r x2 x3 x5 x7 x8 x10 a b c e e2 e3 e5 e7 e8 e10 = rw (a, b, c, e, e2, e3, e5, e7, e8, e10)
+numbers-tell t k s d n r p q x5 x10 a ep b c eq e e5 e10 =
+    let six : matcher_numbers * k + 5 + 1 ≡ matcher_numbers * k + 6 = omega arith in
+    let seven : matcher_numbers * k + 5 + 2 ≡ matcher_numbers * k + 7 = omega arith in
+    rw (a, ep, b, c, eq, six, seven, e, e5, e10)

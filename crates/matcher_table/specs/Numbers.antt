@@ -90,13 +90,17 @@ target_number target.Absent = 0
 target_number (target.Pattern star) = star
 target_number (target.Literal l) = lead_kind l
 
+-- the numbers of one side: the side, its kind and one number more
+abbrev pub half_numbers : Side → ℕ → ℕ → List ℕ
+half_numbers s kind n = side_kind s ∷ side_at s ∷ side_len s ∷ kind ∷ n ∷ []
+
 -- the numbers of a source
 unfoldable pub source_numbers : Side → Needle → List ℕ
-source_numbers s n = side_kind s ∷ side_at s ∷ side_len s ∷ needle_kind n ∷ needle_star n ∷ []
+source_numbers s n = half_numbers s (needle_kind n) (needle_star n)
 
 -- and of a destination
 unfoldable pub destination_numbers : Side → Target → List ℕ
-destination_numbers s t = side_kind s ∷ side_at s ∷ side_len s ∷ target_kind t ∷ target_number t ∷ []
+destination_numbers s t = half_numbers s (target_kind t) (target_number t)
 
 -- a matcher m is put into a table as number k: its numbers are written there, and the others are kept
 pub record PutMatcher (before : List ℕ) (k : ℕ) (m : Matcher) (after : List ℕ) : Type 0 where

@@ -1,22 +1,27 @@
 // The matchers of a group as flat numbers, ten for each, so that they can be lent without copying.
+// As it is: (a) the table of a group is fixed memory on the stack: a matcher has 80 bytes, and its ten numbers have 20. So kinds are numbers
+// in the table, and are made and told again in this file alone.
 #![tactic(auto)]
 
-ghost use Rattle.std.specs.Prelude.{◌≡◌, [], ◌∷◌, ◌+◌, ◌*◌, ◌≤◌, length};
+ghost use Rattle.std.specs.Prelude.{◌≡◌, [], ◌∷◌, ◌+◌, ◌*◌, ◌≤◌, length, get_or};
 ghost use Rattle.meaning.specs.Limits.{spec_list_bytes};
 ghost use Rattle.buffer.specs.Splice.{splice};
 ghost use Rattle.parse.specs.Places.{Within};
 ghost use Rattle.matcher.specs.Matching.{MatcherWithin};
 ghost use Rattle.matcher.specs.Sides.{NeedleStar, TargetStar};
-ghost use Rattle.matcher_table.specs.Numbers.{matcher_numbers, needle_from, lead_from, target_from, matcher_at, PutMatcher, no_matcher, needle_kind, needle_star, lead_kind, target_kind, target_number, source_numbers, destination_numbers};
+ghost use Rattle.sides.specs.Numbers.{side_from};
+ghost use Rattle.sides.specs.Sides.{side_of};
+ghost use Rattle.matcher_table.specs.Numbers.{matcher_numbers, needle_from, lead_from, target_from, matcher_at, PutMatcher, no_matcher, needle_kind, needle_star, lead_kind, target_kind, target_number, half_numbers};
 
 use matcher::types::{Lead, Matcher, Needle, Target};
 use parse::types::Side;
-use sides::{narrow, side_at, side_from, side_kind, side_len, wide};
+use sides::{SideNumbers, narrow, wide};
 
 // How many numbers a matcher has in a table.
 pub const MATCHER_NUMBERS: usize = 10;
 
 // Which needle it is.
+// As it is: (d) a number of the table, see the head of this file.
 fn needle_kind(lhs: Needle) -> u16
     ensures { result ≡ needle_kind lhs }
 {
@@ -44,6 +49,7 @@ fn needle_star(lhs: Needle) -> u16
 }
 
 // Which lead it is.
+// As it is: (d) a number of the table, see the head of this file.
 fn lead_kind(lead: Lead) -> u16
     ensures { result ≡ lead_kind lead }
 {
@@ -57,6 +63,7 @@ fn lead_kind(lead: Lead) -> u16
 }
 
 // Which target it is.
+// As it is: (d) a number of the table, see the head of this file.
 fn target_kind(rhs: Target) -> u16
     ensures { result ≡ target_kind rhs }
 {
@@ -68,6 +75,7 @@ fn target_kind(rhs: Target) -> u16
 }
 
 // Where the star of a target stands, or how it is led.
+// As it is: (d) a number of the table, see the head of this file.
 fn target_number(rhs: Target) -> u16
     requires { TargetStar spec_list_bytes rhs }
     ensures { result ≡ target_number rhs }
@@ -80,6 +88,7 @@ fn target_number(rhs: Target) -> u16
 }
 
 // Five numbers are put into a table from i on.
+// As it is: (a) the table is fixed memory.
 fn put_five(table: &mut [u16], i: usize, a: u16, b: u16, c: u16, d: u16, e: u16)
     requires { i + 5 ≤ length table.old }
     ensures { table.new ≡ splice table.old i (a ∷ b ∷ c ∷ d ∷ e ∷ []) }
@@ -91,53 +100,35 @@ fn put_five(table: &mut [u16], i: usize, a: u16, b: u16, c: u16, d: u16, e: u16)
     table[i + 4] = e;
 }
 
-// The numbers of a source are put into a table from i on.
-fn put_source(table: &mut [u16], i: usize, src: Side, lhs: Needle)
-    requires { (i + 5 ≤ length table.old) × Within spec_list_bytes src × NeedleStar spec_list_bytes lhs }
-    ensures { table.new ≡ splice table.old i (source_numbers src lhs) }
+// The five numbers of one side are put into a table from i on: the side, its kind and one number more.
+// As it is: (a) the table is fixed memory.
+fn put_half(table: &mut [u16], i: usize, side: Side, kind: u16, number: u16)
+    requires { (i + 5 ≤ length table.old) × Within spec_list_bytes side }
+    ensures { table.new ≡ splice table.old i (half_numbers side kind number) }
 {
-    put_five(
-        table,
-        i,
-        side_kind(src),
-        side_at(src),
-        side_len(src),
-        needle_kind(lhs),
-        needle_star(lhs),
-    );
-}
-
-// The numbers of a destination are put into a table from i on.
-fn put_destination(table: &mut [u16], i: usize, dst: Side, rhs: Target)
-    requires { (i + 5 ≤ length table.old) × Within spec_list_bytes dst × TargetStar spec_list_bytes rhs }
-    ensures { table.new ≡ splice table.old i (destination_numbers dst rhs) }
-{
-    put_five(
-        table,
-        i,
-        side_kind(dst),
-        side_at(dst),
-        side_len(dst),
-        target_kind(rhs),
-        target_number(rhs),
-    );
+    let n = SideNumbers::of(side);
+    put_five(table, i, n.kind, n.at, n.len, kind, number);
 }
 
 // A matcher is put into a table as number k.
+// As it is: (a) the table is fixed memory.
 pub fn put_matcher(table: &mut [u16], k: usize, m: Matcher)
     requires { MatcherWithin spec_list_bytes m × (matcher_numbers * k + matcher_numbers ≤ length table.old) }
     ensures { PutMatcher table.old k m table.new }
 {
     let i = MATCHER_NUMBERS * k;
-    let src = m.src;
-    let lhs = m.lhs;
-    let dst = m.dst;
-    let rhs = m.rhs;
-    put_source(table, i, src, lhs);
-    put_destination(table, i + 5, dst, rhs);
+    put_half(table, i, m.src, needle_kind(m.lhs), needle_star(m.lhs));
+    put_half(
+        table,
+        i + 5,
+        m.dst,
+        target_kind(m.rhs),
+        target_number(m.rhs),
+    );
 }
 
 // What two numbers tell that a source looks for.
+// As it is: (d) a number of the table, see the head of this file.
 fn needle_from(kind: u16, star: usize) -> Needle
     ensures { result ≡ needle_from kind star }
 {
@@ -151,6 +142,7 @@ fn needle_from(kind: u16, star: usize) -> Needle
 }
 
 // The lead that a number tells.
+// As it is: (d) a number of the table, see the head of this file.
 fn lead_from(n: usize) -> Lead
     ensures { result ≡ lead_from n }
 {
@@ -164,6 +156,7 @@ fn lead_from(n: usize) -> Lead
 }
 
 // What two numbers tell of a destination.
+// As it is: (d) a number of the table, see the head of this file.
 fn target_from(kind: u16, n: usize) -> Target
     ensures { result ≡ target_from kind n }
 {
@@ -174,15 +167,29 @@ fn target_from(kind: u16, n: usize) -> Target
     }
 }
 
+// The numbers of a side that stand in a table from i on.
+// As it is: (a) the table is fixed memory.
+fn numbers_at(table: &[u16], i: usize) -> SideNumbers
+    requires { i + 3 ≤ length table.now }
+    ensures { side_of result ≡ side_from (get_or table.now i 0) (get_or table.now (i + 1) 0) (get_or table.now (i + 2) 0) }
+{
+    SideNumbers {
+        kind: table[i],
+        at: table[i + 1],
+        len: table[i + 2],
+    }
+}
+
 // Matcher number k of a table.
+// As it is: (a) the table is fixed memory.
 pub fn matcher_at(table: &[u16], k: usize) -> Matcher
     requires { matcher_numbers * k + matcher_numbers ≤ length table.now }
     ensures { result ≡ matcher_at table.now k }
 {
     let i = MATCHER_NUMBERS * k;
-    let src = side_from(table[i], wide(table[i + 1]), wide(table[i + 2]));
+    let src = numbers_at(table, i).side();
     let lhs = needle_from(table[i + 3], wide(table[i + 4]));
-    let dst = side_from(table[i + 5], wide(table[i + 6]), wide(table[i + 7]));
+    let dst = numbers_at(table, i + 5).side();
     let rhs = target_from(table[i + 8], wide(table[i + 9]));
     Matcher { src, lhs, dst, rhs }
 }

@@ -1,66 +1,66 @@
--- What may follow a byte, as the code asks it of a text from a place on. Assumes nothing.
-use mathlib.Core.Path.{◌≡◌, refl, sym, ap, ◌∙◌}
+-- What may follow a byte, by the bytes that the code looks at. Assumes nothing.
+use mathlib.Core.Path.{◌≡◌, refl, sym, ap}
 use mathlib.Core.Bool.{Bool, true, false, not}
-use mathlib.Core.List.{◌∷◌}
-use Prim.Native.Nat.{ℕ, ◌+◌, ◌-◌, ◌≤◌}
+use mathlib.Core.List.{[], ◌∷◌}
+use Prim.Native.Nat.{ℕ, ◌≤◌, ◌<◌}
 use native.Mathlib.Omega.{arith}
-use borrow.Author.Tests.{ne_eqb}
+use borrow.Author.Tests.{eqb-false, ne_eqb}
 use lib.Dec.{eqb}
-use lib.ListN.{length, get_or, drop, take}
-use Rattle.meaning.specs.Bytes.{Text, bytes, same, begins}
-use Rattle.text.proofs.Rests.{rest-cons, rest_end, rest_part}
-use Rattle.text.proofs.Rows.{and-true}
-use Rattle.compare.proofs.Sames.{eqb_swap}
+use lib.ListN.{length, get_or}
+use Rattle.meaning.specs.Bytes.{Text, ◌and◌}
 use Rattle.name.specs.Rules.{name_byte, rest_of_lock, after_dot, after_slash, after_at_sign, stands}
 
-module _ (s : Text) (r : Bool) (e : r ≡ same s (bytes "lock")) where
-  pub lock-whole : r ≡ true → true ≡ rest_of_lock s
-  unfolding rest_of_lock
-  lock-whole t = rw (sym e ∙ t)
+-- nothing follows neither a dot nor a slash, and may follow an `@`
+pub dot-none : (s : Text) → length s < 1 → false ≡ after_dot s
+unfolding after_dot
+dot-none [] h = refl
+dot-none (x ∷ s) h = absurd (omega arith)
 
-  pub lock-slash : (x : Bool) → r ≡ false → x ≡ begins (bytes "lock/") s → x ≡ rest_of_lock s
-  unfolding rest_of_lock
-  lock-slash x f h = rw (sym e ∙ f) h
+pub slash-none : (s : Text) → length s < 1 → false ≡ after_slash s
+unfolding after_slash
+slash-none [] h = refl
+slash-none (x ∷ s) h = absurd (omega arith)
 
-module _ (s : Text) (at : ℕ) where
-  pub dot-end : at ≡ length s → false ≡ after_dot (drop at s)
-  unfolding after_dot
-  dot-end e = rw (rest_end s at (omega arith))
+pub at-none : (s : Text) → length s < 1 → true ≡ after_at_sign s
+unfolding after_at_sign
+at-none [] h = refl
+at-none (x ∷ s) h = absurd (omega arith)
 
-  pub slash-end : at ≡ length s → false ≡ after_slash (drop at s)
-  unfolding after_slash
-  slash-end e = rw (rest_end s at (omega arith))
+-- else the first byte says it
+pub dot-dot : (s : Text) → 1 ≤ length s → get_or s 0 0 ≡ 46 → false ≡ after_dot s
+unfolding after_dot
+dot-dot [] h e = absurd (omega arith)
+dot-dot (x ∷ s) h e = rw e
 
-  pub at-end : at ≡ length s → true ≡ after_at_sign (drop at s)
-  unfolding after_at_sign
-  at-end e = rw (rest_end s at (omega arith))
+pub dot-lock : (s : Text) (r : Bool) → 1 ≤ length s → (get_or s 0 0 ≡ 46 → ⊥) → r ≡ rest_of_lock s → not r ≡ after_dot s
+unfolding after_dot
+dot-lock [] r h n e = absurd (omega arith)
+dot-lock (x ∷ s) r h n e = rw (ne_eqb 46 x (λ q. n (sym q))) (ap not e)
 
-  module _ (within : at ≤ length s) (some : at ≡ length s → ⊥) where
-    rest-is : drop at s ≡ get_or s at 0 ∷ drop (at + 1) s
-    rest-is = rest-cons s at (omega arith)
+pub slash-two : (s : Text) → 1 ≤ length s → 46 ≤ get_or s 0 0 → get_or s 0 0 < 48 → false ≡ after_slash s
+unfolding after_slash
+slash-two [] h m n = absurd (omega arith)
+slash-two (x ∷ s) h m n = go (eqb 47 x) refl (eqb 46 x) refl
+  where
+    go : (a : Bool) → eqb 47 x ≡ a → (b : Bool) → eqb 46 x ≡ b → false ≡ (not (a and true) and not (b and true))
+    go true e b f = refl
+    go false e true f = refl
+    go false e false f = absurd (let p : 47 ≡ x → ⊥ = eqb-false 47 x e in let q : 46 ≡ x → ⊥ = eqb-false 46 x f in omega arith)
 
-    pub dot-two : get_or s at 0 ≡ 46 → false ≡ after_dot (drop at s)
-    unfolding after_dot
-    dot-two e = rw (rest-is, e)
+pub slash-other : (s : Text) → 1 ≤ length s → (47 ≡ get_or s 0 0 → ⊥) → (46 ≡ get_or s 0 0 → ⊥) → true ≡ after_slash s
+unfolding after_slash
+slash-other [] h m n = absurd (omega arith)
+slash-other (x ∷ s) h m n = rw (ne_eqb 47 x m, ne_eqb 46 x n)
 
-    pub dot-lock : (r : Bool) → (get_or s at 0 ≡ 46 → ⊥) → r ≡ rest_of_lock (take (length s - at) (drop at s)) → not r ≡ after_dot (drop at s)
-    unfolding after_dot
-    dot-lock r n e = ap not (e ∙ ap rest_of_lock (rest_part s at)) ∙ go
-      where
-        go : not (rest_of_lock (drop at s)) ≡ after_dot (drop at s)
-        go = rw (rest-is, ne_eqb 46 (get_or s at 0) (λ q. n (sym q)))
+pub at-brace : (s : Text) → 1 ≤ length s → get_or s 0 0 ≡ 123 → false ≡ after_at_sign s
+unfolding after_at_sign
+at-brace [] h e = absurd (omega arith)
+at-brace (x ∷ s) h e = rw e
 
-    pub slash-two : get_or s at 0 ≡ 47 → false ≡ after_slash (drop at s)
-    unfolding after_slash
-    slash-two e = rw (rest-is, e)
-
-    pub slash-dot : (get_or s at 0 ≡ 47 → ⊥) → not (eqb (get_or s at 0) 46) ≡ after_slash (drop at s)
-    unfolding after_slash
-    slash-dot n = rw (rest-is, ne_eqb 47 (get_or s at 0) (λ q. n (sym q)), eqb_swap (get_or s at 0) 46, and-true)
-
-    pub at-brace : not (eqb (get_or s at 0) 123) ≡ after_at_sign (drop at s)
-    unfolding after_at_sign
-    at-brace = rw (rest-is, eqb_swap (get_or s at 0) 123, and-true)
+pub at-other : (s : Text) → 1 ≤ length s → (get_or s 0 0 ≡ 123 → ⊥) → true ≡ after_at_sign s
+unfolding after_at_sign
+at-other [] h n = absurd (omega arith)
+at-other (x ∷ s) h n = rw (ne_eqb 123 x (λ q. n (sym q)))
 
 -- a dot, a slash and an `@` stand by what follows them, and any other byte by itself
 module _ (x : ℕ) (s : Text) (r : Bool) where

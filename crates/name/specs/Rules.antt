@@ -1,5 +1,6 @@
 -- The rules as one look decides them, at each byte and at what comes after it.
-use Rattle.std.specs.Prelude.{Bool, true, false, not, cond, [], ◌∷◌, ℕ, zero, suc, eqb, leb, get_or}
+use Rattle.std.specs.Prelude.{Bool, true, false, not, ◌&&◌, ◌||◌, cond, [], ◌∷◌, ℕ, zero, suc, eqb, leb, get_or}
+use Rattle.std.specs.Char.{is_ascii_alphanumeric}
 use Rattle.meaning.specs.Bytes.{Text, bytes, byte, star, slash, backslash, ◌and◌, ◌or◌, empty, same, begins, count}
 use Rattle.meaning.specs.Names.{rule_four_byte, rule_five_byte, side_passes}
 use Rattle.name.specs.declared.NameKind.{NameKind}
@@ -8,18 +9,6 @@ use Rattle.name.specs.declared.NameKind.TheVariants.{Name, Pattern, Neither}
 -- 4, 5 and 10: a byte that a name may have
 unfoldable pub name_byte : ℕ → Bool
 name_byte b = rule_four_byte b and rule_five_byte b and not (eqb backslash b)
-
--- a small letter
-unfoldable pub letter : ℕ → Bool
-letter b = leb (byte "a") b and leb b (byte "z")
-
--- a capital
-unfoldable pub capital : ℕ → Bool
-capital b = leb (byte "A") b and leb b (byte "Z")
-
--- a digit
-unfoldable pub digit : ℕ → Bool
-digit b = leb (byte "0") b and leb b (byte "9")
 
 -- 1: what makes a part end with `.lock`, after the dot
 unfoldable pub rest_of_lock : Text → Bool
@@ -46,13 +35,13 @@ abbrev pub standing : Text → ℕ
 standing [] = 0
 standing (x ∷ s) = cond (stands x s) (suc (standing s)) 0
 
--- a small letter, a capital, a digit, a hyphen or a slash
-unfoldable pub plain : ℕ → Bool
-plain b = (((letter b or capital b) or digit b) or eqb b (byte "-")) or eqb b slash
+-- a letter, a digit, a hyphen or a slash
+abbrev pub plain : ℕ → Bool
+plain b = (is_ascii_alphanumeric b || eqb b (byte "-")) || eqb b slash
 
 -- such a byte before a text that begins with c; a slash stands before neither a dot nor a slash
-unfoldable pub fits : ℕ → ℕ → Bool
-fits b c = plain b and not (eqb b slash and (leb (byte ".") c and leb c slash))
+abbrev pub fits : ℕ → ℕ → Bool
+fits b c = plain b && not (eqb b slash && (leb (byte ".") c && leb c slash))
 
 -- each of the first n bytes of a text fits before the next
 abbrev pub fitting : ℕ → Text → Bool

@@ -2,10 +2,11 @@
 use Prim.Native.Nat.{ℕ, zero, suc, ◌+◌, ◌-◌, ◌*◌, ◌≤◌, ◌<◌}
 use native.Mathlib.Omega.{arith}
 use mathlib.Core.Path.{◌≡◌, refl, sym, ap, ◌∙◌}
-use mathlib.Core.Bool.{Bool, true, false}
+use mathlib.Core.Bool.{Bool, true, false, cond, false≢true}
+use Rattle.std.proofs.Math.Bool.{beq}
 use mathlib.Core.List.{List}
 use lib.ListN.{take, drop}
-use Rattle.meaning.specs.Bytes.{Text, bytes, same, present}
+use Rattle.meaning.specs.Bytes.{Text, bytes, agree, same, present}
 use Rattle.meaning.specs.Match.{capture}
 use Rattle.buffer.specs.Splice.{splice}
 use Rattle.glob.specs.declared.Captured.{Captured}
@@ -42,25 +43,25 @@ pub side-part : (s : Text) (σ : Side) (n : Negative) (at len : ℕ) → σ ≡ 
 side-part s σ n at len e h = rw e h
 
 module _ (n d : Negative) (a b : Bool) (ea : a ≡ is_glob n) (eb : b ≡ is_glob d) where
-  -- both are patterns
-  pub besides-globs : a ≡ true → b ≡ true → n ≡ besides n d
+  pub besides-alike : beq a b ≡ true → n ≡ besides n d
   unfolding besides
-  besides-globs p q = rw (sym ea ∙ p, sym eb ∙ q)
+  besides-alike h = go (is_glob n) (is_glob d) (rw (ea, eb) at h)
+    where
+      go : (t u : Bool) → beq t u ≡ true → n ≡ cond (agree t u) n Nothing
+      go true true k = refl
+      go true false k = absurd (false≢true k)
+      go false true k = absurd (false≢true k)
+      go false false k = refl
 
-  -- the source is one alone
-  pub besides-source : a ≡ true → b ≡ false → Nothing ≡ besides n d
+  pub besides-other : beq a b ≡ false → Nothing ≡ besides n d
   unfolding besides
-  besides-source p q = rw (sym ea ∙ p, sym eb ∙ q)
-
-  -- the destination is
-  pub besides-destination : a ≡ false → b ≡ true → Nothing ≡ besides n d
-  unfolding besides
-  besides-destination p q = rw (sym ea ∙ p, sym eb ∙ q)
-
-  -- neither is
-  pub besides-literals : a ≡ false → b ≡ false → n ≡ besides n d
-  unfolding besides
-  besides-literals p q = rw (sym ea ∙ p, sym eb ∙ q)
+  besides-other h = go (is_glob n) (is_glob d) (rw (ea, eb) at h)
+    where
+      go : (t u : Bool) → beq t u ≡ false → Nothing ≡ cond (agree t u) n Nothing
+      go true true k = absurd (false≢true (sym k))
+      go true false k = refl
+      go false true k = refl
+      go false false k = absurd (false≢true (sym k))
 
 module _ (s : Text) (r : RefSpec) (n : Negative) (en : n ≡ side_negative s r.src) (p : Bool) (ep : p ≡ is_present r.dst) where
   -- a spec with a destination

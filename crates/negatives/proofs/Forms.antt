@@ -1,5 +1,6 @@
 -- What a negative looks for, by the form of a text, and that it matches what the meaning's spec excludes. Assumes nothing.
-use Prim.Native.Nat.{ℕ, suc, ◌+◌, ◌-◌, ◌≤◌}
+use Prim.Native.Nat.{ℕ, suc, ◌+◌, ◌-◌, ◌≤◌, ◌<◌}
+use native.Mathlib.Nat.{ne_of_lt}
 use mathlib.Core.Path.{◌≡◌, refl, sym, ap, ◌∙◌}
 use mathlib.Core.Bool.{Bool, true, false, cond}
 use mathlib.Core.Option.{Option, none, some, map}
@@ -31,14 +32,14 @@ module _ (s : Text) (at len : ℕ) (h : at + len ≤ length s) (k : ℕ) (e : k 
   place_is = rw part_of at e
 
   -- at its end there is none
-  pub text-literal : k ≡ len → Literal at len ≡ text_negative s at len
+  pub text-literal : k ≡ length (take (at + len - at) (drop at s)) → Literal at len ≡ text_negative s at len
   unfolding text_negative starred
-  text-literal n = rw (no-star (part_at s at len) (sym place_is ∙ n ∙ sym (part_length s at len h)))
+  text-literal n = rw (no-star (part_at s at len) (sym place_is ∙ n ∙ ap length (part_of s at len)))
 
   -- before that it is a pattern's
-  pub text-glob : (k ≡ len → ⊥) → Glob at len k ≡ text_negative s at len
+  pub text-glob : k < length (take (at + len - at) (drop at s)) → Glob at len k ≡ text_negative s at len
   unfolding text_negative starred
-  text-glob n = rw (a-star (part_at s at len) (λ q. n (place_is ∙ q ∙ part_length s at len h))) (ap (Glob at len) place_is)
+  text-glob n = rw (a-star (part_at s at len) (λ q. ne_of_lt n (place_is ∙ q ∙ sym (ap length (part_of s at len))))) (ap (Glob at len) place_is)
 
 -- ---- a negative stands within the spec list
 

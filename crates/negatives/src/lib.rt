@@ -11,13 +11,14 @@ ghost use Rattle.negatives.specs.Negatives.{negative_numbers, in_place_of_star, 
 ghost use Rattle.negatives.specs.Making.{text_negative, side_negative, is_glob, besides, negative_of, negative_four, added_to, PutNegative, Added};
 
 use glob::pieces::{pieces_glob, pieces_same};
-use parse::types::{RefSpec, Side, is_negative, is_present};
+use parse::types::{RefSpec, Side};
 use sides::wide;
 
 // How many numbers a negative has in a table.
 pub const NEGATIVE_NUMBERS: usize = 4;
 
 // What a negative spec looks for, as places in the spec list.
+// As it is: (d) `Nothing` is one of several cases; an Option around the others would add a layer to each match, as in `Some(Negative::Head)`.
 #[derive(Clone, Copy)]
 pub enum Negative {
     // Nothing: it has no source, or beside it a destination that is a pattern where it is none, or the other way.
@@ -35,12 +36,10 @@ fn text_negative(specs: &[u8], at: usize, len: usize) -> Negative
     requires { at + len ≤ length specs.now }
     ensures { result ≡ text_negative specs.now at len }
 {
-    let end = at + len;
-    let star = text::find(b'*', &specs[at..end]);
-    if star == len {
-        return Negative::Literal { at, len };
+    match text::find(b'*', &specs[at..at + len]) {
+        Some(star) => Negative::Glob { at, len, star },
+        None => Negative::Literal { at, len },
     }
-    Negative::Glob { at, len, star }
 }
 
 // What a side looks for.
@@ -59,32 +58,18 @@ fn side_negative(specs: &[u8], side: Side) -> Negative
 fn is_glob(n: Negative) -> bool
     ensures { result ≡ is_glob n }
 {
-    match n {
-        Negative::Nothing => false,
-        Negative::Head => false,
-        Negative::Literal { at: _, len: _ } => false,
-        Negative::Glob {
-            at: _,
-            len: _,
-            star: _,
-        } => true,
-    }
+    matches!(n, Negative::Glob { .. })
 }
 
 // The source n with a destination d that is there: both are patterns or neither, else nothing is matched.
 fn besides(n: Negative, d: Negative) -> Negative
     ensures { result ≡ besides n d }
 {
-    if is_glob(n) {
-        if is_glob(d) {
-            return n;
-        }
-        return Negative::Nothing;
+    if is_glob(n) == is_glob(d) {
+        n
+    } else {
+        Negative::Nothing
     }
-    if is_glob(d) {
-        return Negative::Nothing;
-    }
-    n
 }
 
 // What a spec looks for, taken as a negative.
@@ -95,13 +80,14 @@ fn negative_of(specs: &[u8], r: RefSpec) -> Negative
     let src = r.src;
     let dst = r.dst;
     let n = side_negative(specs, src);
-    if is_present(dst) {
+    if dst.is_present() {
         return besides(n, side_negative(specs, dst));
     }
     n
 }
 
 // Four numbers are put into a table as those of number k; the number after it.
+// As it is: (a) a negative has 32 bytes, and its four numbers in a table have eight; so kinds are numbers there.
 fn put_numbers(out: &mut [u16], k: usize, kind: usize, at: usize, len: usize, star: usize) -> usize
     requires { (negative_numbers * k + negative_numbers ≤ length out.old) × (kind ≤ 3) × (at ≤ spec_list_bytes) × (len ≤ spec_list_bytes) × (star ≤ spec_list_bytes) }
     ensures { (result ≡ k + 1) × (out.new ≡ splice out.old (negative_numbers * k) (kind ∷ at ∷ len ∷ star ∷ [])) × PutNegative out.old k (negative_from kind at len star) out.new }
@@ -134,7 +120,7 @@ pub fn put_if_negative(specs: &[u8], r: RefSpec, k: usize, out: &mut [u16]) -> u
         × Added specs.now (spec_meant specs.now r) out.old k out.new result }
 {
     let m = r.mode;
-    if !is_negative(m) {
+    if !m.is_negative() {
         return k;
     }
     let n = negative_of(specs, r);
@@ -142,6 +128,7 @@ pub fn put_if_negative(specs: &[u8], r: RefSpec, k: usize, out: &mut [u16]) -> u
 }
 
 // The negative that four numbers tell.
+// As it is: (a) a negative has 32 bytes, and its four numbers in a table have eight; so kinds are numbers there.
 fn negative_from(kind: usize, at: usize, len: usize, star: usize) -> Negative
     ensures { result ≡ negative_from kind at len star }
 {
@@ -203,13 +190,10 @@ pub fn excluded(specs: &[u8], negatives: &[u16], count: usize, name: &[u8]) -> b
     requires { (negative_numbers * count ≤ length negatives.now) × ((k : ℕ) → k < count → NegativeWithin (length specs.now) (negative_at negatives.now k)) }
     ensures { result ≡ excluded_by specs.now negatives.now count name.now }
 {
-    let mut k = 0;
-    while k < count {
-        let n = negative_at(negatives, k);
-        if matches(specs, n, name) {
+    for k in 0..count {
+        if matches(specs, negative_at(negatives, k), name) {
             return true;
         }
-        k += 1;
     }
     false
 }
@@ -265,13 +249,10 @@ pub fn excluded_pieces(
     requires { (negative_numbers * count ≤ length negatives.now) × ((k : ℕ) → k < count → NegativeWithin (length specs.now) (negative_at negatives.now k)) }
     ensures { result ≡ excluded_by specs.now negatives.now count (a.now ++ (b.now ++ c.now)) }
 {
-    let mut i = 0;
-    while i < count {
-        let n = negative_at(negatives, i);
-        if matches_pieces(specs, n, a, b, c) {
+    for i in 0..count {
+        if matches_pieces(specs, negative_at(negatives, i), a, b, c) {
             return true;
         }
-        i += 1;
     }
     false
 }

@@ -32,18 +32,18 @@ module _ (d : Text) (at n : ℕ) (out : Text) (i rest : ℕ) (p : Putting d at n
   stored b left e = writing_more d at (number_bytes n) out i (number_bytes rest) p.writing (b ∷ []) left e (set out i b) (i + 1) (splice-byte out i b putting-room) refl
 
   -- a group that more follow
-  pub putting-more : (b q : ℕ) → 128 ≤ rest → b ≡ 128 + rest % 128 → q ≡ rest / 128 → Putting d at n (set out i b) (i + 1) q
-  putting-more b q m eb eq = record {
+  pub putting-more : 128 ≤ rest → Putting d at n (set out i (128 + rest % 128)) (i + 1) (rest / 128)
+  putting-more m = record {
     small = omega (arith, p.small);
-    writing = stored b (number_bytes q) (rw (eb, eq) (bytes-more rest m p.small));
+    writing = stored (128 + rest % 128) (number_bytes (rest / 128)) (bytes-more rest m p.small);
   }
 
   -- the last group
-  last_stored : (b : ℕ) → rest < 128 → b ≡ rest → Writing d at (number_bytes n) (set out i b) (i + 1) []
-  last_stored b l e = stored b [] (rw e (bytes-last rest l))
+  last_stored : rest < 128 → Writing d at (number_bytes n) (set out i rest) (i + 1) []
+  last_stored l = stored rest [] (bytes-last rest l)
 
-  pub put-ends : (b : ℕ) → rest < 128 → b ≡ rest → i + 1 ≡ at + length (number_bytes n)
-  put-ends b l e = written-place d at (number_bytes n) (set out i b) (i + 1) [] (last_stored b l e) refl
+  pub put-ends : rest < 128 → i + 1 ≡ at + length (number_bytes n)
+  put-ends l = written-place d at (number_bytes n) (set out i rest) (i + 1) [] (last_stored l) refl
 
-  pub put_whole : (b : ℕ) → rest < 128 → b ≡ rest → set out i b ≡ splice d at (number_bytes n)
-  put_whole b l e = written-whole d at (number_bytes n) (set out i b) (i + 1) [] (last_stored b l e) refl
+  pub put_whole : rest < 128 → set out i rest ≡ splice d at (number_bytes n)
+  put_whole l = written-whole d at (number_bytes n) (set out i rest) (i + 1) [] (last_stored l) refl

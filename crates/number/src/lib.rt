@@ -1,9 +1,9 @@
 // Numbers in groups of seven bits: lowest first, the top bit set while more follow, in the shortest form.
 #![tactic(auto)]
 
-ghost use Rattle.std.specs.Prelude.{◌≡◌, ◌+◌, ◌<◌, ◌≤◌, ◌/◌, ◌%◌, length};
+ghost use Rattle.std.specs.Prelude.{◌≡◌, ◌<◌, ◌≤◌, length};
 ghost use Rattle.meaning.specs.Number.{number_bytes};
-ghost use Rattle.buffer.specs.Splice.{splice};
+ghost use Rattle.buffer.specs.Splice.{RoomFor, Puts};
 ghost use Rattle.meaning.specs.Limits.{largest_number};
 ghost use Rattle.number.specs.Reading.{found_at, number_at, after_one, after_two};
 
@@ -16,7 +16,8 @@ pub struct Number {
     pub next: usize,
 }
 
-// The number that starts at `at`, if one is well formed there.
+// The number that starts at `at`, if one is well formed there. Inlined, since LLVM takes a call after several `?` for a rare one.
+#[inline(always)]
 pub fn read(s: &[u8], at: usize) -> Option<Number>
     ensures { result ≡ number_at s.now at }
 {
@@ -72,48 +73,27 @@ pub fn size(n: usize) -> usize
     ensures { result ≡ length (number_bytes n) }
 {
     if n < 128 {
-        return 1;
+        1
+    } else if n < TWO_GROUPS {
+        2
+    } else {
+        NUMBER_GROUPS
     }
-    if n < TWO_GROUPS {
-        return 2;
-    }
-    NUMBER_GROUPS
-}
-
-// The lowest group of a number that has more: the remainder, with the top bit set.
-fn low(n: usize) -> u8
-    ensures { result ≡ 128 + n % 128 }
-{
-    (128 + n % 128) as u8
-}
-
-// The groups above the lowest: the quotient.
-fn high(n: usize) -> usize
-    ensures { result ≡ n / 128 }
-{
-    n / 128
-}
-
-// The highest group.
-fn last(n: usize) -> u8
-    requires { n < 128 }
-    ensures { result ≡ n }
-{
-    n as u8
 }
 
 // `n` written from `at` on; the place after it.
 pub fn put(out: &mut [u8], at: usize, n: usize) -> usize
-    requires { (n ≤ largest_number) × (at + length (number_bytes n) ≤ length out.old) }
-    ensures { (result ≡ at + length (number_bytes n)) × (out.new ≡ splice out.old at (number_bytes n)) }
+    requires { (n ≤ largest_number) × RoomFor out.old at (number_bytes n) }
+    ensures { Puts out.old at (number_bytes n) out.new result }
 {
     let mut i = at;
     let mut rest = n;
+    // As it is: (d) what is left of the number ends the loop, and a `for` over its bytes would have to measure them first.
     while 128 <= rest {
-        out[i] = low(rest);
-        rest = high(rest);
+        out[i] = (128 + rest % 128) as u8;
+        rest /= 128;
         i += 1;
     }
-    out[i] = last(rest);
+    out[i] = rest as u8;
     i + 1
 }

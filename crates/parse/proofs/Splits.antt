@@ -4,13 +4,12 @@ use Prim.Native.Nat.{ℕ, suc, ◌+◌, ◌-◌, ◌≤◌, ◌<◌}
 use native.Mathlib.Nat.{suc-ne-zero}
 use native.Mathlib.Omega.{arith}
 use mathlib.Core.Path.{◌≡◌, refl, sym, ap, ◌∙◌}
-use mathlib.Core.Bool.{Bool, true, false}
+use mathlib.Core.Bool.{cond, true, false}
 use mathlib.Core.List.{[], ◌∷◌}
-use borrow.Author.Tests.{ne_eqb}
 use lib.Seq.{drop-drop}
 use lib.ListN.{length, get_or, take, drop, length-take, length-drop}
 use Rattle.meaning.specs.Bytes.{Text, bytes, colon, same}
-use Rattle.meaning.specs.Spec.{Mode, is_negative, mode_of_byte, mode_of, unsigned, Sides, one, two, sides_of, has_colon}
+use Rattle.meaning.specs.Spec.{Mode, mode_of_byte, mode_of, unsigned, Sides, one, two, sides_of, has_colon}
 use Rattle.text.proofs.Rests.{rest_part}
 use Rattle.text.proofs.Sides.{sides-one, sides-two}
 use Rattle.text.specs.Last.{past_last}
@@ -25,31 +24,10 @@ use Rattle.parse.proofs.Places.{mode-meant, unsigned-drop, sign-within}
 
 -- ---- the sign
 
--- a text without bytes has no sign
-pub mode-empty : (t : Text) → length t ≡ 0 → Normal ≡ mode_case (mode_of t)
-mode-empty [] e = refl
-mode-empty (x ∷ t) e = absurd (suc-ne-zero (length t) e)
-
 -- the first byte decides
-mode-first : (t : Text) → (length t ≡ 0 → ⊥) → mode_of t ≡ mode_of_byte (get_or t 0 0)
-mode-first [] n = absurd (n refl)
-mode-first (x ∷ t) n = refl
-
-module _ (t : Text) (some : length t ≡ 0 → ⊥) where
-  -- `^` is negative
-  pub mode-negative : get_or t 0 0 ≡ 94 → Negative ≡ mode_case (mode_of t)
-  unfolding mode_of_byte
-  mode-negative e = rw (mode-first t some, e)
-
-  -- `+` forces
-  pub mode-force : get_or t 0 0 ≡ 43 → Force ≡ mode_case (mode_of t)
-  unfolding mode_of_byte
-  mode-force e = rw (mode-first t some, e)
-
-  -- any other byte is no sign
-  pub mode-normal : (get_or t 0 0 ≡ 94 → ⊥) → (get_or t 0 0 ≡ 43 → ⊥) → Normal ≡ mode_case (mode_of t)
-  unfolding mode_of_byte
-  mode-normal n m = rw (mode-first t some, ne_eqb 94 (get_or t 0 0) (λ e. n (sym e)), ne_eqb 43 (get_or t 0 0) (λ e. m (sym e)))
+pub mode_first : (t : Text) → 1 ≤ length t → mode_of t ≡ mode_of_byte (get_or t 0 0)
+mode_first [] h = absurd (omega arith)
+mode_first (x ∷ t) h = refl
 
 -- the mode that a case means has that case
 case-meant : (m : code.Mode) → mode_case (mode_meant m) ≡ m
@@ -58,22 +36,6 @@ case-meant Force = refl
 case-meant Negative = refl
 
 -- ---- places
-
--- an operation other than fetch is supplied nothing
-pub supplied-push : (op : ℕ) (m : Mode) → (op ≡ 0 → ⊥) → Absent ≡ supplied_place op m
-unfolding supplied_place
-supplied-push op m n = rw (ne_eqb op 0 n)
-
-module _ (op : ℕ) (m : Mode) (b : Bool) (fetch : op ≡ 0) (is : b ≡ is_negative m) where
-  -- nor is a negative spec
-  pub supplied-negative : b ≡ true → Absent ≡ supplied_place op m
-  unfolding supplied_place
-  supplied-negative e = rw (fetch, sym is ∙ e)
-
-  -- any other fetch is supplied `HEAD`
-  pub supplied-head : b ≡ false → Head ≡ supplied_place op m
-  unfolding supplied_place
-  supplied-head e = rw (fetch, sym is ∙ e)
 
 -- a side without bytes is absent
 placed-empty : (at : ℕ) (l : Text) → length l ≡ 0 → Absent ≡ placed at l
@@ -87,12 +49,12 @@ placed-part at (x ∷ l) n = refl
 
 module _ (t : Text) (at : ℕ) where
   -- no byte from the place on: the destination is absent
-  pub destination-empty : length t - at ≡ 0 → Absent ≡ placed at (drop at t)
-  destination-empty e = placed-empty at (drop at t) (length-drop at t ∙ e)
+  pub destination_none : length t - at ≡ 0 → placed at (drop at t) ≡ Absent
+  destination_none e = sym (placed-empty at (drop at t) (length-drop at t ∙ e))
 
   -- a byte from the place on: the destination takes all of them
-  pub destination-part : (length t - at ≡ 0 → ⊥) → Part at (length t - at) ≡ placed at (drop at t)
-  destination-part n = rw (← length-drop at t) (placed-part at (drop at t) (λ e. n (sym (length-drop at t) ∙ e)))
+  pub destination_some : (length t - at ≡ 0 → ⊥) → placed at (drop at t) ≡ Part at (length t - at)
+  destination_some n = rw (← length-drop at t) (sym (placed-part at (drop at t) (λ e. n (sym (length-drop at t) ∙ e))))
 
 -- a source with a byte is named, and not supplied
 source-place-some : (op : ℕ) (m : Mode) (at : ℕ) (l : Text) → (length l ≡ 0 → ⊥) → source_place op m at l ≡ named_place at l
@@ -101,23 +63,13 @@ source-place-some op m at (x ∷ l) n = refl
 
 module _ (op : ℕ) (m : Mode) (t : Text) (at n : ℕ) where
   -- a source without bytes is what is supplied
-  pub source-empty : (r : Side) → n ≡ 0 → r ≡ supplied_place op m → r ≡ source_place op m at (part_at t at n)
-  source-empty r e h = rw e h
+  pub source_none : n ≡ 0 → source_place op m at (part_at t at n) ≡ supplied_place op m
+  source_none e = rw e
 
-  module _ (fits : at + n ≤ length t) (some : n ≡ 0 → ⊥) (b : Bool) (is : b ≡ same (take (at + n - at) (drop at t)) (bytes "@")) where
-    -- a source with bytes is named
-    named-is : source_place op m at (part_at t at n) ≡ named_place at (part_at t at n)
-    named-is = source-place-some op m at (part_at t at n) (λ e. some (sym (part_length t at n fits) ∙ e))
-
-    -- `@` is the supplied `HEAD`
-    pub source-at : b ≡ true → Head ≡ source_place op m at (part_at t at n)
-    unfolding named_place
-    source-at e = rw (named-is, ← part_of t at n, sym is ∙ e)
-
-    -- any other source has its place
-    pub source-part : b ≡ false → Part at n ≡ source_place op m at (part_at t at n)
-    unfolding named_place
-    source-part e = rw (named-is, rw part_of at (sym is ∙ e), part_length t at n fits)
+  -- any other is named: `@` is the supplied `HEAD`
+  pub source_some : (n ≡ 0 → ⊥) → at + n ≤ length t → source_place op m at (part_at t at n) ≡ cond (same (take (at + n - at) (drop at t)) (bytes "@")) Head (Part at n)
+  unfolding named_place
+  source_some some fits = rw (part_of t at n, source-place-some op m at (part_at t at n) (λ e. some (sym (part_length t at n fits) ∙ e)), part_length t at n fits)
 
 -- ---- the split
 

@@ -3,6 +3,8 @@ use Rattle.std.specs.Prelude.{ℕ, zero, suc, ◌+◌, ◌≤◌, Bool, true, fa
 use Rattle.std.proofs.Math.Option.{Option, none, some}
 use Rattle.meaning.specs.Bytes.{Text, bytes, ◌and◌, same}
 use Rattle.meaning.specs.Spec as meaning
+use Rattle.parse.specs.declared.types.Operation.{Operation}
+use Rattle.parse.specs.declared.types.Operation.TheVariants.{Fetch, Push}
 use Rattle.parse.specs.declared.types.Mode.{Mode}
 use Rattle.parse.specs.declared.types.Mode.TheVariants.{Normal, Force, Negative}
 use Rattle.parse.specs.declared.types.Side.{Side}
@@ -10,6 +12,11 @@ use Rattle.parse.specs.declared.types.Side.TheVariants.{Absent, Part, Head}
 use Rattle.parse.specs.declared.types.RefSpec.{RefSpec}
 use Rattle.refusal.specs.declared.Refusal.{Refusal}
 use Rattle.refusal.specs.Numbers.{number_of, question}
+
+-- the number of an operation
+abbrev pub op_meant : Operation → ℕ
+op_meant Fetch = 0
+op_meant Push = 1
 
 -- the mode that a mode of the code means
 abbrev pub mode_meant : Mode → meaning.Mode

@@ -1,14 +1,14 @@
 // Document 01's questions on one spec, in their order: a `.._refusal` answers the first that refuses.
-ghost use Rattle.std.specs.Prelude.{◌≡◌, true, false, not, ◌+◌, ◌≤◌, length};
+ghost use Rattle.std.specs.Prelude.{MatchResult, ◌≡◌, true, false, not, ◌+◌, ◌≤◌, length};
 ghost use Rattle.meaning.specs.Bytes.{◌and◌, ◌or◌, if_given};
 ghost use Rattle.meaning.specs.Names.{name_passes, side_passes};
 ghost use Rattle.meaning.specs.Spec.{◌else◌then◌, push, hash_like, not_hash_like, sides_refusal};
 ghost use Rattle.name.specs.Rules.{kind_of};
 ghost use Rattle.refusal.specs.Numbers.{number_of, number_or0};
-ghost use Rattle.parse.specs.Places.{mode_meant, part_at, side_meant, is_present, Within, SidesWithin, spec_meant};
+ghost use Rattle.parse.specs.Places.{op_meant, mode_meant, part_at, side_meant, is_present, Within, SidesWithin, spec_meant};
 ghost use Rattle.parse.specs.Questions.{entry_refusal, shape_refusal, text_refusal, side_refusal, first_asked, side_name_kind, is_pattern, kinds_agree, negative_refusal};
 
-use super::types::{Mode, RefSpec, Side, is_negative, is_present};
+use super::types::{Mode, Operation, RefSpec, Side};
 use limits::{HASH_DIGITS, SPEC_BYTES};
 use name::NameKind;
 use refusal::Refusal;
@@ -32,6 +32,7 @@ impl Asked {
     }
 
     // Question 6 or 8.
+    // As it is: (d) two numbers for each of two sides; in one function each caller would take its half of a pair.
     fn name(self) -> Refusal
         ensures { number_of result ≡ first_asked self + 1 }
     {
@@ -42,32 +43,34 @@ impl Asked {
     }
 }
 
-// Questions 18, 1 and 2.
+// Questions 18, 1 and 2; the operation, where they pass.
 #[tactic(auto, using(std::proofs::lemmas::Bool::Decides::nat_tests), unfolding(crate::specs::Questions::entry_refusal))]
-pub(crate) fn entry_refusal(op: u64, spec: &[u8]) -> Result<(), Refusal>
-    ensures { number_or0 result ≡ entry_refusal op spec.now }
+pub(crate) fn entry(op: u64, spec: &[u8]) -> Result<Operation, Refusal>
+    ensures { MatchResult result (λ o. (entry_refusal op spec.now ≡ 0) × (op_meant o ≡ op)) (λ q. number_of q ≡ entry_refusal op spec.now) }
 {
-    if 1 < op {
-        return Err(Refusal::UnknownOperation);
-    }
+    let operation = match op {
+        0 => Operation::Fetch,
+        1 => Operation::Push,
+        _ => return Err(Refusal::UnknownOperation),
+    };
     if SPEC_BYTES < spec.len() {
         return Err(Refusal::SpecTooLong);
     }
-    if op == 1 && spec.is_empty() {
+    if operation == Operation::Push && spec.is_empty() {
         return Err(Refusal::Empty);
     }
-    Ok(())
+    Ok(operation)
 }
 
 // Questions 3 and 4.
 #[tactic(auto, using(std::proofs::lemmas::Bool::Decides::nat_tests), unfolding(crate::specs::Questions::shape_refusal))]
-fn shape_refusal(op: u64, colon: bool, m: Mode, src: Side, dst: Side) -> Result<(), Refusal>
-    ensures { number_or0 result ≡ shape_refusal op colon (mode_meant m) (is_present src) (is_present dst) }
+fn shape_refusal(op: Operation, colon: bool, m: Mode, src: Side, dst: Side) -> Result<(), Refusal>
+    ensures { number_or0 result ≡ shape_refusal (op_meant op) colon (mode_meant m) (is_present src) (is_present dst) }
 {
-    if colon && is_negative(m) {
+    if colon && m.is_negative() {
         return Err(Refusal::NegativeWithDestination);
     }
-    if colon && op == 1 && is_present(src) && !is_present(dst) {
+    if colon && op == Operation::Push && src.is_present() && !dst.is_present() {
         return Err(Refusal::PushToEmpty);
     }
     Ok(())
@@ -120,10 +123,10 @@ fn side_refusal(asked: Asked, free: bool, spec: &[u8], side: Side) -> Result<(),
 }
 
 // A push with a destination: its source, where it has no star, skips the name rules.
-fn skips_rules(op: u64, dst: Side) -> bool
-    ensures { result ≡ (push op and is_present dst) }
+fn skips_rules(op: Operation, dst: Side) -> bool
+    ensures { result ≡ (push (op_meant op) and is_present dst) }
 {
-    op == 1 && is_present(dst)
+    op == Operation::Push && dst.is_present()
 }
 
 // What a side is by the name rules; an absent one counts as a name, and `HEAD` is one.
@@ -164,18 +167,18 @@ fn is_pattern(kind: NameKind) -> bool
 }
 
 // A push without destination.
-fn one_sided(op: u64, dst: Side) -> bool
-    ensures { result ≡ (push op and not (is_present dst)) }
+fn one_sided(op: Operation, dst: Side) -> bool
+    ensures { result ≡ (push (op_meant op) and not (is_present dst)) }
 {
-    op == 1 && !is_present(dst)
+    op == Operation::Push && !dst.is_present()
 }
 
 // Question 9 of sides that passed 5 to 8: both are patterns or neither, asked unless negative or a push without destination.
 #[tactic(auto, using(std::proofs::lemmas::Bool::Decides::nat_tests), unfolding(crate::specs::Questions::kinds_agree))]
-fn stars_agree(op: u64, m: Mode, dst: Side, source: NameKind, destination: NameKind) -> bool
-    ensures { result ≡ kinds_agree op (mode_meant m) (is_present dst) source destination }
+fn stars_agree(op: Operation, m: Mode, dst: Side, source: NameKind, destination: NameKind) -> bool
+    ensures { result ≡ kinds_agree (op_meant op) (mode_meant m) (is_present dst) source destination }
 {
-    is_negative(m) || one_sided(op, dst) || is_pattern(source) == is_pattern(destination)
+    m.is_negative() || one_sided(op, dst) || is_pattern(source) == is_pattern(destination)
 }
 
 // Forty or more bytes, all hexadecimal digits.
@@ -204,10 +207,10 @@ fn negative_refusal(spec: &[u8], m: Mode, src: Side) -> Result<(), Refusal>
     requires { Within (length spec.now) src }
     ensures { number_or0 result ≡ negative_refusal (mode_meant m) (side_meant spec.now src) }
 {
-    if !is_negative(m) {
+    if !m.is_negative() {
         return Ok(());
     }
-    if !is_present(src) {
+    if !src.is_present() {
         return Err(Refusal::NegativeEmpty);
     }
     if source_like_hash(spec, src) {
@@ -218,9 +221,14 @@ fn negative_refusal(spec: &[u8], m: Mode, src: Side) -> Result<(), Refusal>
 
 // Questions 3 to 11.
 #[tactic(auto, using(crate::proofs::Order::sides_asked, crate::proofs::Order::stop_at, crate::proofs::Order::go_on, crate::proofs::Order::stars_are))]
-pub(crate) fn sides_refusal(op: u64, colon: bool, spec: &[u8], r: RefSpec) -> Result<(), Refusal>
+pub(crate) fn sides_refusal(
+    op: Operation,
+    colon: bool,
+    spec: &[u8],
+    r: RefSpec,
+) -> Result<(), Refusal>
     requires { SidesWithin (length spec.now) r }
-    ensures { number_or0 result ≡ sides_refusal op colon (spec_meant spec.now r) }
+    ensures { number_or0 result ≡ sides_refusal (op_meant op) colon (spec_meant spec.now r) }
 {
     shape_refusal(op, colon, r.mode, r.src, r.dst)?;
     let free = skips_rules(op, r.dst);

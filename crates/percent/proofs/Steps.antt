@@ -1,101 +1,134 @@
 -- One step of reading a text in print. Assumes nothing.
 use mathlib.Core.Path.{◌≡◌, refl, sym, ap, ◌∙◌}
-use mathlib.Core.Bool.{Bool, true, false, not}
+use mathlib.Core.Bool.{Bool, true, false, cond}
+use mathlib.Core.Logic.{◌⊎◌, inl, inr}
 use mathlib.Core.List.{◌∷◌}
 use Prim.Native.Nat.{ℕ, ◌+◌, ◌-◌, ◌*◌, ◌<◌, ◌≤◌}
 use native.Mathlib.Omega.{arith}
-use borrow.Author.Tests.{ltb-true, lt-ltb, le-ltb, le-leb, lt-leb, not-true, not-false}
-use mir.Val.{Fits}
-use mir.Syntax.{w64}
-use lib.Dec.{eqb, ltb}
+use borrow.Author.Tests.{ltb-true, ltb-false, lt-ltb}
+use Rattle.std.specs.Prelude.{Option, Some, None}
+use lib.Dec.{ltb}
 use lib.ListN.{length, get_or, drop, length-drop}
 use Rattle.meaning.specs.Bytes.{Text, ◌and◌}
-use Rattle.promises.proofs.Laws.{and_left, and_right}
 use Rattle.text.proofs.Rests.{rest-cons}
 use Rattle.text.proofs.Scans.{byte-is, byte-other}
 use Rattle.print.specs.Lines.{printable}
-use Rattle.print.specs.Unshown.{digit_value, escape, escaped}
+use Rattle.print.specs.Unshown.{fault, digit_value, escape, escaped, unshown_bytes}
 use Rattle.print.proofs.Unshown.{unshown-plain, unshown-escape, unshown-short, unshown-bad}
-use Rattle.percent.specs.Decode.{Steps}
+use Rattle.percent.specs.declared.Shown.{Shown}
+use Rattle.percent.specs.Decode.{digit_of, byte_of, StepsOver}
 
--- the digits, and every other byte
-pub digit_low : (b : ℕ) → 48 ≤ b → b ≤ 57 → b - 48 ≡ digit_value b
-unfolding digit_value
-digit_low b l h = rw (le-leb 48 b l, le-leb b 57 h)
+-- what was answered of a digit
+digit-some : (b v : ℕ) → digit_of b ≡ Some v → (digit_value b ≡ v) × (v < 16)
+unfolding digit_of
+digit-some b v e = go (ltb (digit_value b) 16) refl e
+  where
+    go : (t : Bool) → ltb (digit_value b) 16 ≡ t → cond t (Some (digit_value b)) None ≡ Some v → (digit_value b ≡ v) × (v < 16)
+    go true f g = let q : digit_value b ≡ v = cc in (q, rw q at (ltb-true (digit_value b) 16 f))
+    go false f g = cc
 
-pub digit-high : (b : ℕ) → 65 ≤ b → b ≤ 70 → b - 65 + 10 ≡ digit_value b
-unfolding digit_value
-digit-high b l h = rw (le-leb 48 b (omega arith), lt-leb b 57 (omega arith), le-leb 65 b l, le-leb b 70 h) (omega arith)
+digit-none : (b : ℕ) → digit_of b ≡ None → ltb (digit_value b) 16 ≡ false
+unfolding digit_of
+digit-none b e = go (ltb (digit_value b) 16) refl e
+  where
+    go : (t : Bool) → ltb (digit_value b) 16 ≡ t → cond t (Some (digit_value b)) None ≡ None → ltb (digit_value b) 16 ≡ false
+    go true f g = cc
+    go false f g = f
 
-pub digit-below : (b : ℕ) → b < 48 → 16 ≡ digit_value b
-unfolding digit_value
-digit-below b h = rw (lt-leb 48 b h, lt-leb 65 b (omega arith))
+pub digit-small : (b v : ℕ) (o : Option ℕ) → o ≡ digit_of b → o ≡ Some v → v < 16
+digit-small b v o e y = (digit-some b v (sym e ∙ y)).1
 
-pub digit-between : (b : ℕ) → 57 < b → b < 65 → 16 ≡ digit_value b
-unfolding digit_value
-digit-between b l h = rw (le-leb 48 b (omega arith), lt-leb b 57 l, lt-leb 65 b h)
+-- two digits
+module _ (h l : ℕ) where
+  pub byte-no-high : (o : Option ℕ) → o ≡ digit_of h → o ≡ None → None ≡ byte_of h l
+  unfolding byte_of
+  byte-no-high o e n = rw (digit-none h (sym e ∙ n))
 
-pub digit-above : (b : ℕ) → 70 < b → 16 ≡ digit_value b
-unfolding digit_value
-digit-above b h = rw (le-leb 48 b (omega arith), lt-leb b 57 (omega arith), le-leb 65 b (omega arith), lt-leb b 70 h)
+  module _ (v : ℕ) (o : Option ℕ) (e : o ≡ digit_of h) (y : o ≡ Some v) where
+    high-is : ltb (digit_value h) 16 ≡ true
+    high-is = let d = digit-some h v (sym e ∙ y) in rw (d.0, lt-ltb v 16 d.1)
 
--- an escape, asked byte by byte
+    pub byte-no-low : (p : Option ℕ) → p ≡ digit_of l → p ≡ None → None ≡ byte_of h l
+    unfolding byte_of
+    byte-no-low p f n = rw (high-is, digit-none l (sym f ∙ n))
+
+    pub byte-both : (w : ℕ) (p : Option ℕ) → p ≡ digit_of l → p ≡ Some w → Some (16 * v + w) ≡ byte_of h l
+    unfolding byte_of escaped
+    byte-both w p f z =
+        let a = digit-some h v (sym e ∙ y) in
+        let b = digit-some l w (sym f ∙ z) in
+        rw (a.0, b.0, lt-ltb v 16 a.1, lt-ltb w 16 b.1)
+
+-- `%` and what follows it
+escape-none : (h l : ℕ) → byte_of h l ≡ None → (ltb (digit_value h) 16 and ltb (digit_value l) 16) ≡ false
+unfolding byte_of
+escape-none h l e = go (ltb (digit_value h) 16 and ltb (digit_value l) 16) refl e
+  where
+    go : (t : Bool) → (ltb (digit_value h) 16 and ltb (digit_value l) 16) ≡ t → cond t (Some (escaped h l)) None ≡ None → (ltb (digit_value h) 16 and ltb (digit_value l) 16) ≡ false
+    go true f g = cc
+    go false f g = f
+
+escape-some : (h l v : ℕ) → byte_of h l ≡ Some v → ((ltb (digit_value h) 16 and ltb (digit_value l) 16) ≡ true) × (escaped h l ≡ v)
+unfolding byte_of
+escape-some h l v e = go (ltb (digit_value h) 16 and ltb (digit_value l) 16) refl e
+  where
+    go : (t : Bool) → (ltb (digit_value h) 16 and ltb (digit_value l) 16) ≡ t → cond t (Some (escaped h l)) None ≡ Some v → ((ltb (digit_value h) 16 and ltb (digit_value l) 16) ≡ true) × (escaped h l ≡ v)
+    go true f g = let q : escaped h l ≡ v = cc in (f, q)
+    go false f g = cc
+
 module _ (x h l : ℕ) where
-  pub escape-sign : (x ≡ 37 → ⊥) → false ≡ escape x h l
+  pub sign-bad : (x ≡ 37 → ⊥) → escape x h l ≡ false
   unfolding escape
-  escape-sign n = rw (byte-other x 37 n)
+  sign-bad n = rw (byte-other x 37 n)
 
-  module _ (e : x ≡ 37) (v : ℕ) (ev : v ≡ digit_value h) where
-    pub escape-high : 16 ≤ v → false ≡ escape x h l
-    unfolding escape
-    escape-high n = rw (byte-is x 37 e, ← ev, le-ltb v 16 n)
+  pub escape-bad : x ≡ 37 → byte_of h l ≡ None → escape x h l ≡ false
+  unfolding escape
+  escape-bad e n = rw (byte-is x 37 e) (escape-none h l n)
 
-    pub escape-low : v < 16 → (w : ℕ) → w ≡ digit_value l → ltb w 16 ≡ escape x h l
-    unfolding escape
-    escape-low n w ew = rw (byte-is x 37 e, ← ev, lt-ltb v 16 n, ← ew)
-
-  -- the digits of one
-  module _ (r : Bool) (e : r ≡ escape x h l) (y : not r ≡ false) where
-    both : (ltb (digit_value h) 16 and ltb (digit_value l) 16) ≡ true
-    unfolding escape
-    both = and_right (eqb 37 x) (ltb (digit_value h) 16 and ltb (digit_value l) 16) (sym e ∙ not-false r y)
-
-    pub escape-first : digit_value h < 16
-    escape-first = ltb-true (digit_value h) 16 (and_left (ltb (digit_value h) 16) (ltb (digit_value l) 16) both)
-
-    pub escape-second : digit_value l < 16
-    escape-second = ltb-true (digit_value l) 16 (and_right (ltb (digit_value h) 16) (ltb (digit_value l) 16) both)
-
--- and the byte that it stands for
-pub escaped-is : (h l v w : ℕ) → v ≡ digit_value h → w ≡ digit_value l → 16 * v + w ≡ escaped h l
-unfolding escaped
-escaped-is h l v w ev ew = rw (ev, ew)
+  pub escape-good : x ≡ 37 → (v : ℕ) → byte_of h l ≡ Some v → (escape x h l ≡ true) × (escaped h l ≡ v)
+  unfolding escape
+  escape-good e v y = let d = escape-some h l v y in (rw (byte-is x 37 e) d.0, d.1)
 
 -- what is shown from a place on
 module _ (t : Text) (i : ℕ) (within : i < length t) (p : Bool) (ep : p ≡ printable (get_or t i 0)) where
-  pub step-plain : p ≡ true → Steps (drop i t) 1 (get_or t i 0)
-  step-plain y = rw (rest-cons t i within) (record { makes = unshown-plain (get_or t i 0) (drop (i + 1) t) (sym ep ∙ y); within = omega arith })
+  pub step-plain : p ≡ true → StepsOver (drop i t) (record { byte = get_or t i 0; width = 1 })
+  step-plain y = rw (rest-cons t i within) (record { some = omega arith; within = omega arith; makes = unshown-plain (get_or t i 0) (drop (i + 1) t) (sym ep ∙ y) })
 
   module _ (n : p ≡ false) where
-    pub step-short : length t - i < 3 → Steps (drop i t) 0 0
-    step-short h = rw (rest-cons t i within) (record { makes = unshown-short (get_or t i 0) (drop (i + 1) t) (sym ep ∙ n) (rw length-drop (omega arith)); within = omega arith })
+    pub step-short : length t - i < 3 → unshown_bytes (drop i t) ≡ fault 0
+    step-short h = rw (rest-cons t i within) (unshown-short (get_or t i 0) (drop (i + 1) t) (sym ep ∙ n) (rw length-drop (omega arith)))
 
-    module _ (long : 3 ≤ length t - i) (r : Bool) (er : r ≡ escape (get_or t i 0) (get_or t (i + 1) 0) (get_or t (i + 2) 0)) where
+    module _ (long : 3 ≤ length t - i) where
       three : drop i t ≡ get_or t i 0 ∷ get_or t (i + 1) 0 ∷ get_or t (i + 2) 0 ∷ drop (i + 3) t
       three =
           let a : i + 1 + 1 ≡ i + 2 = omega arith in
           let b : i + 2 + 1 ≡ i + 3 = omega arith in
           rest-cons t i within ∙ ap (λ (s : Text). get_or t i 0 ∷ s) (rest-cons t (i + 1) (omega arith) ∙ rw a (ap (λ (s : Text). get_or t (i + 1) 0 ∷ s) (rest-cons t (i + 2) (omega arith) ∙ rw b)))
 
-      pub step-bad : not r ≡ true → Steps (drop i t) 0 0
-      step-bad y = rw three (record { makes = unshown-bad (get_or t i 0) (get_or t (i + 1) 0) (get_or t (i + 2) 0) (drop (i + 3) t) (sym ep ∙ n) (sym er ∙ not-true r y); within = omega arith })
+      bad : escape (get_or t i 0) (get_or t (i + 1) 0) (get_or t (i + 2) 0) ≡ false → unshown_bytes (drop i t) ≡ fault 0
+      bad y = rw three (unshown-bad (get_or t i 0) (get_or t (i + 1) 0) (get_or t (i + 2) 0) (drop (i + 3) t) (sym ep ∙ n) y)
 
-      pub step-escape : not r ≡ false → (v : ℕ) → v ≡ escaped (get_or t (i + 1) 0) (get_or t (i + 2) 0) → Steps (drop i t) 3 v
-      step-escape y v ev = rw (three, ev) (record { makes = unshown-escape (get_or t i 0) (get_or t (i + 1) 0) (get_or t (i + 2) 0) (drop (i + 3) t) (sym er ∙ not-false r y); within = omega arith })
+      module _ (e : get_or t i 0 ≡ 37) (o : Option ℕ) (eo : o ≡ byte_of (get_or t (i + 1) 0) (get_or t (i + 2) 0)) where
+        pub step-bad : o ≡ None → unshown_bytes (drop i t) ≡ fault 0
+        step-bad y = bad (escape-bad _ _ _ e (sym eo ∙ y))
+
+        pub step-escape : (v : ℕ) → o ≡ Some v → StepsOver (drop i t) (record { byte = v; width = 3 })
+        step-escape v y =
+            let d = escape-good (get_or t i 0) _ _ e v (sym eo ∙ y) in
+            rw (three, ← d.1) (record { some = omega arith; within = omega arith; makes = unshown-escape (get_or t i 0) (get_or t (i + 1) 0) (get_or t (i + 2) 0) (drop (i + 3) t) d.0 })
+
+    -- it is not `%`
+    pub step-unsigned : (get_or t i 0 ≡ 37 → ⊥) → unshown_bytes (drop i t) ≡ fault 0
+    step-unsigned u = go (ltb (length t - i) 3) refl
+      where
+        go : (b : Bool) → ltb (length t - i) 3 ≡ b → unshown_bytes (drop i t) ≡ fault 0
+        go true f = step-short (ltb-true (length t - i) 3 f)
+        go false f = bad (ltb-false (length t - i) 3 f) (sign-bad _ _ _ u)
+
+    pub step-none : (get_or t i 0 ≡ 37 → ⊥) ⊎ (length t - i < 3) → unshown_bytes (drop i t) ≡ fault 0
+    step-none (inl u) = step-unsigned u
+    step-none (inr h) = step-short h
 
 -- a step ends within the text
-pub step-within : (t : Text) (i w b : ℕ) → i < length t → Steps (drop i t) w b → i + w ≤ length t
-step-within t i w b h s = omega (arith, s.within, length-drop i t)
-
-pub step_fits : (t : Text) (i w b : ℕ) → Fits w64 (length t) → i < length t → Steps (drop i t) w b → Fits w64 (i + w)
-step_fits t i w b f h s = omega (arith, step-within t i w b h s)
+pub step-within : (t : Text) (i : ℕ) (b : Shown) → i < length t → StepsOver (drop i t) b → i + b.width ≤ length t
+step-within t i b h s = omega (arith, s.within, length-drop i t)

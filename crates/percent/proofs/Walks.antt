@@ -2,33 +2,25 @@
 use mathlib.Core.Path.{◌≡◌, refl, sym, ap, ◌∙◌}
 use mathlib.Core.Bool.{Bool, true, false, cond}
 use mathlib.Core.List.{[], ◌∷◌, ◌++◌}
-use Prim.Native.Nat.{ℕ, zero, suc, ◌+◌, ◌-◌, ◌<◌, ◌≤◌}
+use Prim.Native.Nat.{ℕ, suc, ◌+◌, ◌<◌, ◌≤◌}
 use native.Mathlib.Nat.{zero-add}
 use native.Mathlib.Omega.{arith}
 use lib.Dec.{eqb}
 use lib.ListN.{length, get_or, drop}
 use lib.Seq.{drop-drop}
 use Rattle.meaning.specs.Bytes.{Text}
-use Rattle.text.proofs.Rests.{rest-cons, rest_end}
-use Rattle.text.proofs.Scans.{byte-is, byte-other}
+use Rattle.text.proofs.Rests.{rest_end}
+use Rattle.text.proofs.Scans.{byte-is}
 use Rattle.buffer.specs.Splice.{splice}
 use Rattle.buffer.proofs.Splices.{splice-none}
 use Rattle.buffer.proofs.Writing.{Writing, writing-starts, writing-room, writing_more, written-whole}
 use Rattle.print.specs.Lines.{printable}
 use Rattle.print.specs.Unshown.{Unshown, stands, fault, before, after, text_of, escape, escaped, as_it_is, unshown_bytes, unshown}
-use Rattle.percent.specs.declared.Measured.{Measured}
-use Rattle.percent.specs.declared.Measured.TheVariants.{Size, Fault}
+use Rattle.std.specs.Prelude.{Option, Some, Result, Ok, Err}
+use Rattle.percent.specs.declared.Fault.{Fault}
+use Rattle.percent.specs.declared.Shown.{Shown}
 use Rattle.percent.proofs.Steps.{step-within}
-use Rattle.percent.specs.Decode.{measured, is_text, stepped, Steps, Decodes}
-
--- a text without `=` has its fault at the start
-pub none-empty : (t : Text) → length t ≡ 0 → Fault 0 ≡ measured (unshown t)
-none-empty [] e = refl
-none-empty (x ∷ s) e = absurd (omega arith)
-
-pub none-signed : (t : Text) → (length t ≡ 0 → ⊥) → (get_or t 0 0 ≡ 61 → ⊥) → Fault 0 ≡ measured (unshown t)
-none-signed [] z n = absurd (z refl)
-none-signed (x ∷ s) z n = rw (byte-other x 61 n)
+use Rattle.percent.specs.Decode.{measured, is_text, StepsOver, Steps}
 
 -- with it, what follows it decides
 sign-off : (t : Text) → (length t ≡ 0 → ⊥) → get_or t 0 0 ≡ 61 → unshown t ≡ after 1 (unshown_bytes (drop 1 t))
@@ -36,17 +28,17 @@ sign-off [] z e = absurd (z refl)
 sign-off (x ∷ s) z e = rw (byte-is x 61 e)
 
 -- n bytes are read of the first i, and what is left is read as u
-abbrev pub counted : ℕ → ℕ → Unshown → Measured
-counted n i (stands t) = Size (n + length t)
-counted n i (fault k) = Fault (i + k)
+abbrev pub counted : ℕ → ℕ → Unshown → Result ℕ Fault
+counted n i (stands t) = Ok (n + length t)
+counted n i (fault k) = Err (record { at = i + k })
 
 counted-after : (u : Unshown) → counted 0 1 u ≡ measured (after 1 u)
 counted-after (stands t) = rw (zero-add (length t))
 counted-after (fault k) = refl
 
 counted-before : (n i b w : ℕ) (u : Unshown) → counted n i (before b w u) ≡ counted (n + 1) (i + w) u
-counted-before n i b w (stands t) = ap Size (omega arith)
-counted-before n i b w (fault k) = ap Fault (omega arith)
+counted-before n i b w (stands t) = ap Ok (omega arith)
+counted-before n i b w (fault k) = ap (λ (j : ℕ). Err (record { at = j })) (omega arith)
 
 -- the text is read as far as byte i
 pub record Counted (t : Text) (n i : ℕ) : Type 0 where
@@ -57,31 +49,21 @@ pub record Counted (t : Text) (n i : ℕ) : Type 0 where
 pub counted-starts : (t : Text) → (length t ≡ 0 → ⊥) → get_or t 0 0 ≡ 61 → Counted t 0 1
 counted-starts t z e = record { within = omega arith; few = omega arith; makes = counted-after (unshown_bytes (drop 1 t)) ∙ ap measured (sym (sign-off t z e)) }
 
--- a step of some width
-some-width : (w b : ℕ) (s : Text) → (w ≡ 0 → ⊥) → stepped w b s ≡ before b w (unshown_bytes (drop w s))
-some-width zero b s z = absurd (z refl)
-some-width (suc w) b s z = refl
-
-no-width : (w b : ℕ) (s : Text) → w ≡ 0 → stepped w b s ≡ fault 0
-no-width w b s e = rw e
-
 module _ (t : Text) (n i : ℕ) (c : Counted t n i) where
   -- after the last byte all is read
-  pub counted-whole : length t ≤ i → Size n ≡ measured (unshown t)
-  counted-whole h = let e : counted n i (unshown_bytes []) ≡ measured (unshown t) = rw (rest_end t i h) at c.makes in let f : n + 0 ≡ n = omega arith in ap Size (sym f) ∙ e
+  pub counted-whole : length t ≤ i → Ok n ≡ measured (unshown t)
+  counted-whole h = let e : counted n i (unshown_bytes []) ≡ measured (unshown t) = rw (rest_end t i h) at c.makes in let f : n + 0 ≡ n = omega arith in ap Ok (sym f) ∙ e
 
-  module _ (h : i < length t) (w b : ℕ) (s : Steps (drop i t) w b) where
-    -- a fault is at i
-    pub counted-fault : w ≡ 0 → Fault i ≡ measured (unshown t)
-    counted-fault z = let e : counted n i (fault 0) ≡ measured (unshown t) = ap (counted n i) (sym (s.makes ∙ no-width w b (drop i t) z)) ∙ c.makes in let f : i + 0 ≡ i = omega arith in ap Fault (sym f) ∙ e
-
+  module _ (h : i < length t) (o : Option Shown) (s : Steps (drop i t) o) where
     -- one byte more is read
-    pub counted-more : (w ≡ 0 → ⊥) → Counted t (n + 1) (i + w)
-    counted-more z = record {
-      within = step-within t i w b h s;
-      few = omega (arith, c.few);
-      makes = ap (counted (n + 1) (i + w)) (ap unshown_bytes (sym (drop-drop w i t))) ∙ sym (counted-before n i b w (unshown_bytes (drop w (drop i t)))) ∙ ap (counted n i) (sym (s.makes ∙ some-width w b (drop i t) z)) ∙ c.makes;
-    }
+    pub counted-more : (b : Shown) → o ≡ Some b → Counted t (n + 1) (i + b.width)
+    counted-more b z =
+        let g : StepsOver (drop i t) b = rw z at s in
+        record {
+          within = step-within t i b h g;
+          few = omega (arith, c.few, g.some);
+          makes = ap (counted (n + 1) (i + b.width)) (ap unshown_bytes (sym (drop-drop b.width i t))) ∙ sym (counted-before n i b.byte b.width (unshown_bytes (drop b.width (drop i t)))) ∙ ap (counted n i) (sym g.makes) ∙ c.makes;
+        }
 
 -- the text of a byte before others
 text-before : (b w : ℕ) (u : Unshown) → is_text u ≡ true → text_of (before b w u) ≡ b ∷ text_of u
@@ -164,40 +146,32 @@ module _ (d t out : Text) (end i : ℕ) (p : Putting d t out end i) where
   pub putting-whole : length t ≤ i → out ≡ splice d 0 (text_of (unshown t))
   putting-whole h = written-whole d 0 (text_of (unshown t)) out end (text_of (unshown_bytes (drop i t))) p.writing (ap (λ (s : Text). text_of (unshown_bytes s)) (rest_end t i h))
 
-  module _ (h : i < length t) (w b : ℕ) (s : Steps (drop i t) w b) where
-    -- some bytes show the next one
-    pub putting-width : w ≡ 0 → ⊥
-    putting-width z = let e : false ≡ true = ap is_text (sym (s.makes ∙ no-width w b (drop i t) z)) ∙ p.right in let q : ◌≡◌ {A = ℕ} 0 1 = cc in omega arith
+  module _ (h : i < length t) (o : Option Shown) (s : Steps (drop i t) o) where
+    module _ (b : Shown) (z : o ≡ Some b) where
+      step : StepsOver (drop i t) b
+      step = rw z at s
 
-    pub putting-less : length t - (i + w) < length t - i
-    putting-less = omega (arith, putting-width)
+      next : unshown_bytes (drop i t) ≡ before b.byte b.width (unshown_bytes (drop (i + b.width) t))
+      next = step.makes ∙ ap (λ (x : Text). before b.byte b.width (unshown_bytes x)) (drop-drop b.width i t)
 
-    next : unshown_bytes (drop i t) ≡ before b w (unshown_bytes (drop (i + w) t))
-    next = s.makes ∙ some-width w b (drop i t) putting-width ∙ ap (λ (x : Text). before b w (unshown_bytes x)) (drop-drop w i t)
+      right-next : is_text (unshown_bytes (drop (i + b.width) t)) ≡ true
+      right-next = sym (is-text-before b.byte b.width (unshown_bytes (drop (i + b.width) t))) ∙ ap is_text (sym next) ∙ p.right
 
-    right-next : is_text (unshown_bytes (drop (i + w) t)) ≡ true
-    right-next = sym (is-text-before b w (unshown_bytes (drop (i + w) t))) ∙ ap is_text (sym next) ∙ p.right
+      text-next : text_of (unshown_bytes (drop i t)) ≡ (b.byte ∷ []) ++ text_of (unshown_bytes (drop (i + b.width) t))
+      text-next = ap text_of next ∙ text-before b.byte b.width (unshown_bytes (drop (i + b.width) t)) right-next
 
-    text-next : text_of (unshown_bytes (drop i t)) ≡ (b ∷ []) ++ text_of (unshown_bytes (drop (i + w) t))
-    text-next = ap text_of next ∙ text-before b w (unshown_bytes (drop (i + w) t)) right-next
+      -- there is room for it
+      pub putting-room : end < length out
+      putting-room = omega (arith, writing-room d 0 (text_of (unshown t)) out end (text_of (unshown_bytes (drop i t))) p.writing (b.byte ∷ []) (text_of (unshown_bytes (drop (i + b.width) t))) text-next)
 
-    -- there is room for it
-    pub putting-room : end < length out
-    putting-room = omega (arith, writing-room d 0 (text_of (unshown t)) out end (text_of (unshown_bytes (drop i t))) p.writing (b ∷ []) (text_of (unshown_bytes (drop (i + w) t))) text-next)
+      -- it is written
+      pub putting-more : (q : Text) (j : ℕ) → q ≡ splice out end (b.byte ∷ []) → j ≡ end + 1 → Putting d t q j (i + b.width)
+      putting-more q j eq ej = record {
+        within = step-within t i b h step;
+        right = right-next;
+        writing = writing_more d 0 (text_of (unshown t)) out end (text_of (unshown_bytes (drop i t))) p.writing (b.byte ∷ []) (text_of (unshown_bytes (drop (i + b.width) t))) text-next q j eq ej;
+      }
 
-    -- it is written
-    pub putting-more : (q : Text) (j : ℕ) → q ≡ splice out end (b ∷ []) → j ≡ end + 1 → Putting d t q j (i + w)
-    putting-more q j eq ej = record {
-      within = step-within t i w b h s;
-      right = right-next;
-      writing = writing_more d 0 (text_of (unshown t)) out end (text_of (unshown_bytes (drop i t))) p.writing (b ∷ []) (text_of (unshown_bytes (drop (i + w) t))) text-next q j eq ej;
-    }
-
--- what was measured says whether there is a fault
-pub size-right : (u : Unshown) (m : Measured) (n : ℕ) → m ≡ measured u → m ≡ Size n → is_text u ≡ true
-size-right (stands t) m n e f = refl
-size-right (fault k) m n e f = absurd (let z : ◌≡◌ {A = ℕ} 0 1 = cc in omega arith)
-
-pub fault-none : (u : Unshown) (m : Measured) (k : ℕ) (d : Text) → m ≡ measured u → m ≡ Fault k → d ≡ splice d 0 (text_of u)
-fault-none (stands t) m k d e f = absurd (let z : ◌≡◌ {A = ℕ} 0 1 = cc in omega arith)
+pub fault-none : (u : Unshown) (m : Result ℕ Fault) (k : Fault) (d : Text) → m ≡ measured u → m ≡ Err k → d ≡ splice d 0 (text_of u)
+fault-none (stands t) m k d e f = cc
 fault-none (fault j) m k d e f = sym (splice-none d 0)

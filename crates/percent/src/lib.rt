@@ -2,102 +2,78 @@
 #![tactic(auto)]
 
 ghost use Rattle.std.specs.Prelude.{◌≡◌, true, ◌<◌, ◌≤◌, length, drop};
-ghost use Rattle.print.specs.Unshown.{text_of, digit_value, escape, escaped, unshown};
+ghost use Rattle.print.specs.Unshown.{text_of, unshown};
 ghost use Rattle.buffer.specs.Splice.{splice};
-ghost use Rattle.percent.specs.Decode.{measured, is_text, Steps, Decodes};
+ghost use Rattle.percent.specs.Decode.{digit_of, byte_of, measured, is_text, Steps, Decodes};
 
 use print::shown::is_plain;
 
-// How many bytes a text in print stands for, or the place of its first byte that is not as a text is shown.
-#[derive(Clone, Copy)]
-pub enum Measured {
-    Size(usize),
-    Fault(usize),
+// The place of a text's first byte that is not as a text is shown.
+#[derive(Clone, Copy, Debug, PartialEq, Eq)]
+pub struct Fault {
+    pub at: usize,
 }
 
-// A byte that is shown, and how many bytes show it; 0 of them where none is shown.
+// A byte that is shown, and how many bytes show it.
 #[derive(Clone, Copy)]
-struct Step {
-    width: usize,
+struct Shown {
     byte: u8,
+    width: usize,
 }
 
-// The number that a capital hexadecimal digit stands for; 16 where a byte is none.
-fn digit_value(b: u8) -> u8
-    ensures { result ≡ digit_value b }
+// The number that a capital hexadecimal digit stands for.
+#[tactic(auto, using(std::proofs::lemmas::Bool::Decides::nat_tests), unfolding(crate::specs::Decode::digit_of, print::specs::Unshown::digit_value))]
+fn digit_value(b: u8) -> Option<u8>
+    ensures { result ≡ digit_of b }
 {
     match b {
-        b'0'..=b'9' => b - b'0',
-        b'A'..=b'F' => b - b'A' + 10,
-        _ => 16,
+        b'0'..=b'9' => Some(b - b'0'),
+        b'A'..=b'F' => Some(b - b'A' + 10),
+        _ => None,
     }
 }
 
-// `%` and two such digits.
-fn is_escape(x: u8, h: u8, l: u8) -> bool
-    ensures { result ≡ escape x h l }
+// The byte that two digits stand for, the higher one first.
+fn escaped(h: u8, l: u8) -> Option<u8>
+    ensures { result ≡ byte_of h l }
 {
-    if x != b'%' {
-        return false;
-    }
-    if 16 <= digit_value(h) {
-        return false;
-    }
-    digit_value(l) < 16
-}
-
-// The byte that the two digits stand for, the higher one first.
-fn escaped(h: u8, l: u8) -> u8
-    requires { (digit_value h < 16) × (digit_value l < 16) }
-    ensures { result ≡ escaped h l }
-{
-    16 * digit_value(h) + digit_value(l)
+    let high = digit_value(h)?;
+    let low = digit_value(l)?;
+    Some(16 * high + low)
 }
 
 // The byte that is shown from a place on.
-fn shown_at(t: &[u8], i: usize) -> Step
+fn shown_at(t: &[u8], i: usize) -> Option<Shown>
     requires { i < length t.now }
-    ensures { Steps (drop i t.now) result.width result.byte }
+    ensures { Steps (drop i t.now) result }
 {
-    if is_plain(t[i]) {
-        return Step {
-            width: 1,
-            byte: t[i],
-        };
+    let b = t[i];
+    if is_plain(b) {
+        return Some(Shown { byte: b, width: 1 });
     }
-    if t.len() - i < 3 {
-        return Step { width: 0, byte: 0 };
+    if b != b'%' || t.len() - i < 3 {
+        return None;
     }
-    if !is_escape(t[i], t[i + 1], t[i + 2]) {
-        return Step { width: 0, byte: 0 };
-    }
-    Step {
-        width: 3,
-        byte: escaped(t[i + 1], t[i + 2]),
-    }
+    let byte = escaped(t[i + 1], t[i + 2])?;
+    Some(Shown { byte, width: 3 })
 }
 
 // How many bytes a text in print stands for, or where its first fault is.
-pub fn measure(t: &[u8]) -> Measured
+pub fn measure(t: &[u8]) -> Result<usize, Fault>
     ensures { result ≡ measured (unshown t.now) }
 {
-    if t.len() == 0 {
-        return Measured::Fault(0);
-    }
-    if t[0] != b'=' {
-        return Measured::Fault(0);
+    if t.first() != Some(&b'=') {
+        return Err(Fault { at: 0 });
     }
     let mut n = 0;
     let mut i = 1;
+    // As it is: (d) one byte or three show a byte, so each step says where the next one begins, and a `for` would count the bytes that show.
     while i < t.len() {
-        let s = shown_at(t, i);
-        if s.width == 0 {
-            return Measured::Fault(i);
-        }
+        let s = shown_at(t, i).ok_or(Fault { at: i })?;
         n += 1;
         i += s.width;
     }
-    Measured::Size(n)
+    Ok(n)
 }
 
 // Writes what a text in print without a fault stands for at the start of the buffer.
@@ -107,8 +83,9 @@ fn put_text(t: &[u8], out: &mut [u8])
 {
     let mut end = 0;
     let mut i = 1;
+    // As it is: (d) as in `measure`.
     while i < t.len() {
-        let s = shown_at(t, i);
+        let Some(s) = shown_at(t, i) else { return };
         end = buffer::put_byte(out, end, s.byte);
         i += s.width;
     }
@@ -116,14 +93,11 @@ fn put_text(t: &[u8], out: &mut [u8])
 
 // Writes what a text in print stands for at the start of the buffer, and answers how many bytes it has; where there is a fault, it answers
 // the place of the fault and writes nothing.
-pub fn decode(t: &[u8], out: &mut [u8]) -> Measured
+pub fn decode(t: &[u8], out: &mut [u8]) -> Result<usize, Fault>
     requires { length t.now ≤ length out.old }
     ensures { Decodes (unshown t.now) out.old out.new result }
 {
-    let m = measure(t);
-    match m {
-        Measured::Size(_) => put_text(t, out),
-        Measured::Fault(_) => (),
-    }
-    m
+    let n = measure(t)?;
+    put_text(t, out);
+    Ok(n)
 }

@@ -1,14 +1,13 @@
 -- Entering what a side, a yield and a group of specs yield, one text after the other. Assumes nothing.
-use Prim.Native.Nat.{ℕ, suc, ◌+◌, ◌*◌, ◌≤◌, ◌<◌}
+use Prim.Native.Nat.{ℕ, ◌+◌, ◌*◌, ◌≤◌, ◌<◌}
 use native.Mathlib.Numerals.{add-one}
 use native.Mathlib.Omega.{arith}
 use mathlib.Core.Path.{◌≡◌, refl, sym, ap, ◌∙◌}
 use mathlib.Core.List.{List, [], ◌∷◌, ◌++◌, append-nil}
 use borrow.Author.Tests.{lt-ltb}
 use lib.ListN.{length, take, drop, length-append}
-use lib.Seq.{take-suc, length-take-le}
+use lib.Seq.{take-suc, drop-cons}
 use Rattle.meaning.specs.Bytes.{Text, each}
-use Rattle.meaning.specs.Limits.{spec_count}
 use Rattle.meaning.specs.Prefix.{candidates, expand_prefixes}
 use Rattle.parse.specs.declared.types.Side.{Side}
 use Rattle.parse.specs.declared.types.Side.TheVariants.{Absent, Part, Head}
@@ -24,26 +23,15 @@ use Rattle.refspec.proofs.Fronts.{remote-within}
 use Rattle.expand.proofs.Lists.{expand-is, yield-within}
 use Rattle.spec_list.specs.Group.{group_meant, AllWithin}
 use Rattle.spec_list.specs.declared.record.SpecRecord.{SpecRecord}
-use Rattle.spec_list.specs.Table.{spec_from_record, record_at}
-use Rattle.spec_list.proofs.Groups.{table-next, table-within, table-end}
+use Rattle.spec_list.specs.Table.{blank, spec_from_record, record_at}
+use Rattle.spec_list.proofs.Groups.{all-within}
 use Rattle.prefixes.specs.declared.entry.Entry.{Entry}
 use Rattle.prefixes.specs.Distinct.{add_all}
 use Rattle.prefixes.specs.Table.{entry_text, entry, side_entry, table_texts, EntryWithin, Entries, Entered}
-use Rattle.prefixes.specs.Group.{group_texts, table_room, Collected}
+use Rattle.prefixes.specs.Group.{group_texts, table_room}
 use Rattle.prefixes.proofs.Distinct.{all_append}
 
 -- ---- the entry of a side
-
--- the arms of a `match` on a side
-module _ (side : Side) where
-  pub side-absent : side ≡ Absent → entry 0 0 0 ≡ side_entry side
-  side-absent e = rw e
-
-  pub side-part : (at n : ℕ) → side ≡ Part at n → entry 0 at n ≡ side_entry side
-  side-part at n e = rw e
-
-  pub side-head : side ≡ Head → entry 6 0 0 ≡ side_entry side
-  side-head e = rw e
 
 -- its text is the side's
 side-text : (specs : Text) (side : Side) → entry_text specs (side_entry side) ≡ side_text specs side
@@ -60,15 +48,12 @@ side-in len Head w = omega arith
 
 -- ---- one after the other
 
--- nothing is entered
-nothing-entered : (specs : Text) (table : List ℕ) (c : ℕ) → Entries (length specs) table c → Entered specs [] table c table c
-nothing-entered specs table c h = record { entries = h; holds = refl; most = omega arith }
-
 -- some texts, and then others
-entered-then : (specs : Text) (a b : List Text) (t : List ℕ) (c : ℕ) (t₁ : List ℕ) (c₁ : ℕ) (t₂ : List ℕ) (c₂ : ℕ) → Entered specs a t c t₁ c₁ → Entered specs b t₁ c₁ t₂ c₂ → Entered specs (a ++ b) t c t₂ c₂
+entered-then : (specs : Text) (a b : List Text) (t : List Entry) (c : ℕ) (t₁ : List Entry) (c₁ : ℕ) (t₂ : List Entry) (c₂ : ℕ) → Entered specs a t c t₁ c₁ → Entered specs b t₁ c₁ t₂ c₂ → Entered specs (a ++ b) t c t₂ c₂
 entered-then specs a b t c t₁ c₁ t₂ c₂ x y = record {
+  room = y.room;
   entries = y.entries;
-  holds = y.holds ∙ ap (λ (l : List Text). add_all l b) x.holds ∙ sym (all_append (table_texts specs t c) a b);
+  holds = y.holds ∙ ap (λ (l : List Text). add_all l b) x.holds ∙ sym (all_append (table_texts specs (take c t)) a b);
   most = omega (arith, x.most, y.most, length-append a b);
 }
 
@@ -85,27 +70,15 @@ unfolding candidate
 candidates-more t k h = rw (add-one k) (take-suc (candidates t) k [] h)
 
 -- the candidates are entered as far as number k
-pub record Adding (specs : Text) (at n : ℕ) (table₀ : List ℕ) (count : ℕ) (scratch₀ : Text) (table : List ℕ) (scratch : Text) (c k : ℕ) : Type 0 where
+pub record Adding (specs : Text) (at n : ℕ) (table₀ : List Entry) (count : ℕ) (scratch₀ : Text) (table : List Entry) (scratch : Text) (c k : ℕ) : Type 0 where
   pub turn : k ≤ 6
   pub entered : Entered specs (take k (candidates (part_at specs at n))) table₀ count table c
   pub kept : length table ≡ length table₀
   pub lent : length scratch ≡ length scratch₀
 
--- none at the start
-pub adding-starts : (specs : Text) (at n : ℕ) (table : List ℕ) (count : ℕ) (scratch : Text) → Entries (length specs) table count → Adding specs at n table count scratch table scratch count 0
-adding-starts specs at n table count scratch h = record { turn = omega arith; entered = nothing-entered specs table count h; kept = refl; lent = refl }
-
-module _ (specs : Text) (at n : ℕ) (table₀ : List ℕ) (count : ℕ) (scratch₀ : Text) (table : List ℕ) (scratch : Text) (c k : ℕ) (m : Adding specs at n table₀ count scratch₀ table scratch c k) where
-  -- the table so far
-  pub adding-entries : Entries (length specs) table c
-  adding-entries = m.entered.entries
-
-  -- has room for one more
-  pub adding-room : k < 6 → 3 * (count + 6) ≤ length table₀ → 3 * c + 3 ≤ length table
-  adding-room h r = let l : length (candidates (part_at specs at n)) ≡ 6 = refl in omega (arith, m.entered.most, length-take-le k (candidates (part_at specs at n)) (omega arith), m.kept)
-
+module _ (specs : Text) (at n : ℕ) (table₀ : List Entry) (count : ℕ) (scratch₀ : Text) (table : List Entry) (scratch : Text) (c k : ℕ) (m : Adding specs at n table₀ count scratch₀ table scratch c k) where
   -- which is entered
-  pub adding-more : k < 6 → (next : List ℕ) (lent : Text) (d : ℕ) → Entered specs (entry_text specs (entry k at n) ∷ []) table c next d → length next ≡ length table → length lent ≡ length scratch → Adding specs at n table₀ count scratch₀ next lent d (k + 1)
+  pub adding-more : k < 6 → (next : List Entry) (lent : Text) (d : ℕ) → Entered specs (entry_text specs (entry k at n) ∷ []) table c next d → length next ≡ length table → length lent ≡ length scratch → Adding specs at n table₀ count scratch₀ next lent d (k + 1)
   adding-more h next lent d x p q = record {
     turn = omega arith;
     entered = rw (candidates-more (part_at specs at n) k h) (entered-then specs (take k (candidates (part_at specs at n))) (candidate k (part_at specs at n) ∷ []) table₀ count table c next d m.entered (rw (← candidate-text specs k at n h) x));
@@ -113,35 +86,14 @@ module _ (specs : Text) (at n : ℕ) (table₀ : List ℕ) (count : ℕ) (scratc
     lent = q ∙ m.lent;
   }
 
-  -- after the sixth all are
-  pub adding-whole : 6 ≤ k → Entered specs (candidates (part_at specs at n)) table₀ count table c
-  adding-whole h = let e : k ≡ 6 = omega (arith, m.turn) in rw e at m.entered
-
 -- ---- what a spec yields
 
 -- the arms of a `match` on a yield
-module _ (specs : Text) (table : List ℕ) (c : ℕ) (y : Yield) where
-  -- nothing
-  pub add_nothing : y ≡ Nothing → Entries (length specs) table c → Entered specs (yield_meant specs y) table c table c
-  add_nothing e h = rw e (nothing-entered specs table c h)
-
+module _ (specs : Text) (table : List Entry) (c : ℕ) (y : Yield) where
   module _ (side : Side) (is : y ≡ One side) (e : Entry) (q : e ≡ side_entry side) where
-    -- one text stands within the list
-    pub add-one-within : (len : ℕ) → YieldWithin len y → EntryWithin len e
-    add-one-within len w = rw q (side-in len side (rw is at w))
-
     -- and is entered
-    pub add-one-is : (after : List ℕ) (d : ℕ) → Entered specs (entry_text specs e ∷ []) table c after d → Entered specs (yield_meant specs y) table c after d
+    pub add-one-is : (after : List Entry) (d : ℕ) → Entered specs (entry_text specs e ∷ []) table c after d → Entered specs (yield_meant specs y) table c after d
     add-one-is after d x = rw is (rw (q, side-text specs side) at x)
-
-  module _ (at n : ℕ) (is : y ≡ Six at n) where
-    -- the candidates' name stands within the list
-    pub add-six-within : (len : ℕ) → YieldWithin len y → at + n ≤ len
-    add-six-within len w = rw is at w
-
-    -- and they are entered
-    pub add-six-is : (after : List ℕ) (d : ℕ) → Entered specs (candidates (part_at specs at n)) table c after d → Entered specs (yield_meant specs y) table c after d
-    add-six-is after d x = rw is x
 
 -- a yield has at most six
 yield-few : (specs : Text) (y : Yield) → length (yield_meant specs y) ≤ 6
@@ -162,7 +114,7 @@ module _ (op : ℕ) (specs : Text) (r : RefSpec) (in_List : SidesWithin (length 
     spec-yield = yield-within op specs r side y es ey in_List
 
     -- which is entered
-    pub spec-entered : (table : List ℕ) (c : ℕ) (next : List ℕ) (k : ℕ) → Entered specs (yield_meant specs y) table c next k → Entered specs (expand_prefixes op (spec_meant specs r)) table c next k
+    pub spec-entered : (table : List Entry) (c : ℕ) (next : List Entry) (k : ℕ) → Entered specs (yield_meant specs y) table c next k → Entered specs (expand_prefixes op (spec_meant specs r)) table c next k
     spec-entered table c next k x = rw (← expand-is op specs r side y es ey in_List) x
 
 -- a spec yields at most six
@@ -174,50 +126,48 @@ spec-few op specs r w =
 
 -- ---- a group
 
--- what the specs yield is entered as far as number i, and the others make the whole
-pub record Collecting (op : ℕ) (specs : Text) (group : List SpecRecord) (n : ℕ) (table₀ : List ℕ) (scratch₀ : Text) (table : List ℕ) (scratch : Text) (c i : ℕ) : Type 0 where
-  pub turn : i ≤ n
+-- the specs of a group from a place on: that one, and those after it
+rest-next : (specs : Text) (group : List SpecRecord) (i : ℕ) → i < length group → group_meant specs (drop i group) ≡ spec_meant specs (spec_from_record (record_at group i)) ∷ group_meant specs (drop (i + 1) group)
+rest-next specs group i h = rw (add-one i) (ap (group_meant specs) (drop-cons group i blank h))
+
+-- what the first i specs yield is entered, and the others make the whole
+pub record Collecting (op : ℕ) (specs : Text) (group : List SpecRecord) (table₀ : List Entry) (scratch₀ : Text) (table : List Entry) (scratch : Text) (c i : ℕ) : Type 0 where
   pub few : c ≤ 6 * i
-  pub entries : Entries (length specs) table c
-  pub whole : add_all (table_texts specs table c) (each (group_meant specs (drop i (take n group))) (expand_prefixes op)) ≡ group_texts op (group_meant specs (take n group))
+  pub turn : i ≤ length group
+  pub room : c ≤ length table
+  pub entries : Entries (length specs) (take c table)
+  pub whole : add_all (table_texts specs (take c table)) (each (group_meant specs (drop i group)) (expand_prefixes op)) ≡ group_texts op (group_meant specs group)
   pub kept : length table ≡ length table₀
   pub lent : length scratch ≡ length scratch₀
 
 -- nothing at the start
-pub collecting-starts : (op : ℕ) (specs : Text) (group : List SpecRecord) (n : ℕ) (table : List ℕ) (scratch : Text) → Collecting op specs group n table scratch table scratch 0 0
+pub collecting-starts : (op : ℕ) (specs : Text) (group : List SpecRecord) (table : List Entry) (scratch : Text) → Collecting op specs group table scratch table scratch 0 0
 unfolding group_texts
-collecting-starts op specs group n table scratch =
-    record { turn = omega arith; few = omega arith; entries = record { room = omega arith; within = λ i l. absurd (omega arith) }; whole = refl; kept = refl; lent = refl }
+collecting-starts op specs group table scratch =
+    record { few = omega arith; turn = omega arith; room = omega arith; entries = record { within = λ i l. absurd (omega arith) }; whole = refl; kept = refl; lent = refl }
 
-module _ (op : ℕ) (specs : Text) (group : List SpecRecord) (n : ℕ) (table₀ : List ℕ) (scratch₀ : Text) (table : List ℕ) (scratch : Text) (c i : ℕ) (m : Collecting op specs group n table₀ scratch₀ table scratch c i) where
-  module _ (below : i < n) (few-specs : n ≤ spec_count) where
+module _ (op : ℕ) (specs : Text) (group : List SpecRecord) (table₀ : List Entry) (scratch₀ : Text) (table : List Entry) (scratch : Text) (c i : ℕ) (m : Collecting op specs group table₀ scratch₀ table scratch c i) where
+  module _ (below : i < length group) where
     -- the table has room for six more
-    pub collecting-room : table_room n ≤ length table₀ → 3 * (c + 6) ≤ length table
+    pub collecting-room : table_room (length group) ≤ length table₀ → c + 6 ≤ length table
     collecting-room h = omega (arith, m.few, m.kept)
 
-    module _ (size : length group ≡ spec_count) (q : SpecRecord) (is : q ≡ record_at (take n group) i) (r : RefSpec) (tells : r ≡ spec_from_record q) (in_List : AllWithin (length specs) (take n group)) where
+    module _ (q : SpecRecord) (is : q ≡ record_at group i) (r : RefSpec) (tells : r ≡ spec_from_record q) (in_List : AllWithin (length specs) group) where
       -- the next record stands within the list
       pub collecting-within : SidesWithin (length specs) r
-      collecting-within = rw tells (table-within group n i q is size few-specs below (length specs) in_List)
+      collecting-within = rw (tells, is) (all-within (length specs) group i below in_List)
 
       -- what it yields is entered
-      pub collecting-more : (next : List ℕ) (lent : Text) (k : ℕ) → Entered specs (expand_prefixes op (spec_meant specs r)) table c next k → length next ≡ length table → length lent ≡ length scratch → Collecting op specs group n table₀ scratch₀ next lent k (i + 1)
+      pub collecting-more : (next : List Entry) (lent : Text) (k : ℕ) → Entered specs (expand_prefixes op (spec_meant specs r)) table c next k → length next ≡ length table → length lent ≡ length scratch → Collecting op specs group table₀ scratch₀ next lent k (i + 1)
       collecting-more next lent k x p l = record {
-        turn = omega arith;
         few = omega (arith, m.few, x.most, spec-few op specs r collecting-within);
+        turn = omega arith;
+        room = x.room;
         entries = x.entries;
         whole =
-            rw (x.holds, add-one i)
-            (sym (all_append (table_texts specs table c) (expand_prefixes op (spec_meant specs r)) (each (group_meant specs (drop (suc i) (take n group))) (expand_prefixes op)))
-            ∙ rw (table-next group n i q is size few-specs below specs, ← tells) at m.whole);
+            rw x.holds
+            (sym (all_append (table_texts specs (take c table)) (expand_prefixes op (spec_meant specs r)) (each (group_meant specs (drop (i + 1) group)) (expand_prefixes op)))
+            ∙ rw (rest-next specs group i below, ← is, ← tells) at m.whole);
         kept = p ∙ m.kept;
         lent = l ∙ m.lent;
       }
-
-  -- after the last all is
-  pub collecting-whole : n ≤ i → n ≤ spec_count → Collected op specs (group_meant specs (take n group)) table c
-  collecting-whole h k = record {
-    entries = m.entries;
-    holds = rw (table-end group n i h specs) at m.whole;
-    few = omega (arith, m.few, m.turn);
-  }

@@ -7,7 +7,7 @@ use mathlib.Core.List.{List, [], ◌∷◌}
 use mathlib.Core.Option.{Option, none, some}
 use borrow.Author.Tests.{leb-true}
 use lib.Dec.{leb}
-use lib.ListN.{length, take}
+use lib.ListN.{length, take, length-take}
 use Rattle.meaning.specs.Bytes.{Text}
 use Rattle.meaning.specs.Limits.{spec_list_bytes, spec_count}
 use Rattle.meaning.specs.Spec.{Answer, accepted, refused, Spec}
@@ -19,16 +19,14 @@ use Rattle.meaning.specs.Entries.{◌and_then◌, GroupPrefixBytes, IsGroupPrefi
 use Rattle.buffer.specs.declared.written.Written.{Written}
 use Rattle.buffer.specs.Answers.{refused_with}
 use Rattle.buffer.proofs.Meets.{made-refused}
+use Rattle.std.specs.Prelude.{Result, Ok, Err}
+use Rattle.refusal.specs.Numbers.{number_of}
+use Rattle.list.specs.declared.refused.Refused.{Refused}
 use Rattle.spec_list.specs.declared.Group.{Group}
 use Rattle.spec_list.specs.Group.{group_meant, AllWithin, GroupRead}
 use Rattle.spec_list.proofs.Told.{GroupPassed, group-passed, group-failed}
-use Rattle.prefixes.specs.Table.{table_texts}
-use Rattle.prefixes.specs.Group.{group_texts, group_prefixes, Collected, MeetsPrefixes}
+use Rattle.prefixes.specs.Group.{group_texts, group_prefixes, MeetsPrefixes}
 use Rattle.prefixes.proofs.Distinct.{distinct-prefixes}
-
--- the list of a table is that of the group whose texts it holds
-pub table_meets : (op : ℕ) (specs : Text) (group : List Spec) (table : List ℕ) (c : ℕ) (entry exit : Text) (refusal record_number size : ℕ) → Collected op specs group table c → MeetsOne (accepted (some (record_bytes (table_texts specs table c)) ∷ [])) entry exit refusal record_number size → MeetsOne (accepted (some (record_bytes (group_texts op group)) ∷ [])) entry exit refusal record_number size
-table_meets op specs group table c entry exit refusal record_number size x m = rw x.holds at m
 
 -- a group's texts are its prefix list
 texts-are : (op : ℕ) (group : List Spec) → GroupPrefixes op group (group_texts op group)
@@ -67,20 +65,20 @@ prefixes-are op specs = go (read_specs op specs)
 pub prefixes-meet : (op : ℕ) (specs entry exit : Text) (refusal record_number size : ℕ) → MeetsOne (group_prefixes op specs) entry exit refusal record_number size → MeetsPrefixes op specs entry exit refusal record_number size
 prefixes-meet op specs entry exit refusal record_number size m = record { answer = group_prefixes op specs; is = prefixes-are op specs; meets = m }
 
-module _ (op : ℕ) (specs : Text) (g : Group) (r : GroupRead specs g (read_specs op specs)) (entry : Text) where
+module _ (op : ℕ) (specs : Text) (v : Result Group Refused) (r : GroupRead specs v (read_specs op specs)) (entry : Text) where
   -- a refused list leaves the buffer as it was
-  pub group-refused : (g.refusal ≡ 0 → ⊥) → (w : Written) → w ≡ refused_with g.refusal g.«record» → MeetsOne (group_prefixes op specs) entry entry w.refusal w.«record» w.length
-  group-refused z w e =
-      let f = group-failed specs g (read_specs op specs) r z in
-      made-refused (group_prefixes op specs) entry g.refusal f.carried g.«record» w (refused-is op specs g.refusal f.carried f.answer) f.number e
+  pub group-refused : (x : Refused) → v ≡ Err x → (k : ℕ) → k ≡ number_of x.refusal → (w : Written) → w ≡ refused_with k x.«record» → MeetsOne (group_prefixes op specs) entry entry w.refusal w.«record» w.length
+  group-refused x z k ek w e =
+      let f = group-failed specs v (read_specs op specs) r x z in
+      made-refused (group_prefixes op specs) entry (number_of x.refusal) f.carried x.«record» w (refused-is op specs (number_of x.refusal) f.carried f.answer) f.number (rw (← ek) e)
 
-  module _ (z : g.refusal ≡ 0) where
+  module _ (g : Group) (z : v ≡ Ok g) where
     passed : GroupPassed specs g (read_specs op specs)
-    passed = group-passed specs g (read_specs op specs) r z
+    passed = group-passed specs v (read_specs op specs) r g z
 
     -- an accepted one has at most so many specs
-    pub group-count : g.count ≤ spec_count
-    group-count = passed.is.count-within
+    pub group-count : length (take g.count g.specs) ≤ spec_count
+    group-count = omega (arith, passed.is.count-within, length-take g.count g.specs)
 
     -- whose sides stand within it
     pub group-within : AllWithin (length specs) (take g.count g.specs)

@@ -1,17 +1,18 @@
 -- The text of one entry, by the branches of the code: a candidate, or `HEAD`. Assumes nothing.
-use Prim.Native.Nat.{ℕ, ◌+◌, ◌-◌, ◌≤◌, ◌<◌}
+use Prim.Native.Nat.{ℕ, ◌+◌, ◌≤◌, ◌<◌}
 use native.Mathlib.Omega.{arith}
 use mathlib.Core.Path.{◌≡◌, refl}
 use mathlib.Core.Bool.{Bool, true, false}
 use mathlib.Core.List.{◌∷◌}
 use borrow.Author.Tests.{lt-ltb, le-ltb, ltb-true, ltb-false}
 use lib.Dec.{ltb}
-use lib.ListN.{length, take, drop}
+use lib.ListN.{length}
 use Rattle.meaning.specs.Bytes.{Text, bytes, same}
+use Rattle.meaning.specs.Limits.{spec_list_bytes}
 use Rattle.meaning.specs.Number.{number_bytes, text_bytes}
 use Rattle.buffer.specs.Splice.{splice}
 use Rattle.parse.specs.Places.{part_at}
-use Rattle.parse.proofs.Parts.{part_of, part_length}
+use Rattle.parse.proofs.Parts.{part_length}
 use Rattle.frames.specs.Frames.{candidate, longest_frame}
 use Rattle.frames.proofs.Candidates.{candidate-short, record_adds, record-short}
 use Rattle.prefixes.specs.declared.entry.Entry.{Entry}
@@ -23,48 +24,52 @@ unfolding text_bytes number_bytes
 head-record = refl
 
 module _ (specs : Text) (e : Entry) where
-  module _ (h : e.frame < 6) where
+  module _ (h : e.frame < 6) (name : Text) (is : name ≡ part_at specs e.name.at e.name.len) where
     -- a candidate's number
-    framed : entry_text specs e ≡ candidate e.frame (take (e.at + e.len - e.at) (drop e.at specs))
+    framed : entry_text specs e ≡ candidate e.frame name
     unfolding entry_text
-    framed = rw (lt-ltb e.frame 6 h, part_of specs e.at e.len)
+    framed = rw (lt-ltb e.frame 6 h, is)
 
     -- its size
-    pub framed-size : (r : ℕ) → r ≡ length (text_bytes (candidate e.frame (take (e.at + e.len - e.at) (drop e.at specs)))) → r ≡ length (text_bytes (entry_text specs e))
+    pub framed-size : (r : ℕ) → r ≡ length (text_bytes (candidate e.frame name)) → r ≡ length (text_bytes (entry_text specs e))
     framed-size r q = rw framed q
+
+    -- its name is no longer than the list
+    pub framed-name : EntryWithin (length specs) e → length specs ≤ spec_list_bytes → length name ≤ spec_list_bytes
+    framed-name w f = rw is (omega (arith, part_length specs e.name.at e.name.len w))
 
     module _ (d : Text) (i : ℕ) where
       -- its record has room
-      pub framed-room : i + length (text_bytes (entry_text specs e)) ≤ length d → i + length (text_bytes (candidate e.frame (take (e.at + e.len - e.at) (drop e.at specs)))) ≤ length d
+      pub framed-room : i + length (text_bytes (entry_text specs e)) ≤ length d → i + length (text_bytes (candidate e.frame name)) ≤ length d
       framed-room f = rw framed at f
 
       -- is written
-      pub framed-put : (o : Text) → o ≡ splice d i (text_bytes (candidate e.frame (take (e.at + e.len - e.at) (drop e.at specs)))) → o ≡ splice d i (text_bytes (entry_text specs e))
+      pub framed-put : (o : Text) → o ≡ splice d i (text_bytes (candidate e.frame name)) → o ≡ splice d i (text_bytes (entry_text specs e))
       framed-put o q = rw framed q
 
       -- and ends there
-      pub framed-ends : (r : ℕ) → r ≡ i + length (text_bytes (candidate e.frame (take (e.at + e.len - e.at) (drop e.at specs)))) → r ≡ i + length (text_bytes (entry_text specs e))
+      pub framed-ends : (r : ℕ) → r ≡ i + length (text_bytes (candidate e.frame name)) → r ≡ i + length (text_bytes (entry_text specs e))
       framed-ends r q = rw framed q
 
     -- its text has room
-    pub framed-spell-room : (d : Text) → EntryWithin (length specs) e → length specs + longest_frame ≤ length d → 0 + length (candidate e.frame (take (e.at + e.len - e.at) (drop e.at specs))) ≤ length d
-    framed-spell-room d w f = rw (part_of specs e.at e.len) (omega (arith, candidate-short (part_at specs e.at e.len) e.frame h, part_length specs e.at e.len w))
+    pub framed-spell-room : (d : Text) → EntryWithin (length specs) e → length specs + longest_frame ≤ length d → 0 + length (candidate e.frame name) ≤ length d
+    framed-spell-room d w f = rw is (omega (arith, candidate-short (part_at specs e.name.at e.name.len) e.frame h, part_length specs e.name.at e.name.len w))
 
     -- is written
-    pub framed-spelt : (d o : Text) → o ≡ splice d 0 (candidate e.frame (take (e.at + e.len - e.at) (drop e.at specs))) → o ≡ splice d 0 (entry_text specs e)
+    pub framed-spelt : (d o : Text) → o ≡ splice d 0 (candidate e.frame name) → o ≡ splice d 0 (entry_text specs e)
     framed-spelt d o q = rw framed q
 
     -- and has as many bytes
-    pub framed-length : (r : ℕ) → r ≡ 0 + length (candidate e.frame (take (e.at + e.len - e.at) (drop e.at specs))) → r ≡ length (entry_text specs e)
+    pub framed-length : (r : ℕ) → r ≡ 0 + length (candidate e.frame name) → r ≡ length (entry_text specs e)
     framed-length r q = rw framed (omega arith)
 
     -- is asked for
-    pub framed-same : (t : Text) (r : Bool) → r ≡ same t (candidate e.frame (take (e.at + e.len - e.at) (drop e.at specs))) → r ≡ same t (entry_text specs e)
+    pub framed-same : (t : Text) (r : Bool) → r ≡ same t (candidate e.frame name) → r ≡ same t (entry_text specs e)
     framed-same t r q = rw framed q
 
     -- and takes at most so many bytes more than the list
     framed-short : EntryWithin (length specs) e → length (text_bytes (entry_text specs e)) ≤ length specs + record_adds
-    framed-short w = rw (framed, part_of specs e.at e.len) (omega (arith, record-short (part_at specs e.at e.len) e.frame h, part_length specs e.at e.len w))
+    framed-short w = rw (framed, is) (omega (arith, record-short (part_at specs e.name.at e.name.len) e.frame h, part_length specs e.name.at e.name.len w))
 
   module _ (h : 6 ≤ e.frame) where
     -- a number past the last
@@ -106,5 +111,5 @@ module _ (specs : Text) (e : Entry) where
   entry-short w = go (ltb e.frame 6) refl
     where
       go : (b : Bool) → ltb e.frame 6 ≡ b → length (text_bytes (entry_text specs e)) ≤ length specs + record_adds
-      go true h = framed-short (ltb-true e.frame 6 h) w
+      go true h = framed-short (ltb-true e.frame 6 h) (part_at specs e.name.at e.name.len) refl w
       go false h = omega (arith, head-size (ltb-false e.frame 6 h))

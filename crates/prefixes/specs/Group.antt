@@ -1,5 +1,5 @@
 -- The texts of a group in a table, and a call that meets its buffer with a group's prefix list.
-use Rattle.std.specs.Prelude.{ℕ, ◌*◌, ◌≤◌, ◌≡◌, List, [], ◌∷◌, length}
+use Rattle.std.specs.Prelude.{ℕ, ◌*◌, ◌≤◌, ◌≡◌, List, [], ◌∷◌, length, take}
 use Rattle.std.proofs.Math.Option.{some}
 use Rattle.meaning.specs.Bytes.{Text, each}
 use Rattle.meaning.specs.Limits.{spec_count}
@@ -9,6 +9,7 @@ use Rattle.meaning.specs.Lists.{read_specs}
 use Rattle.meaning.specs.Prefix.{expand_prefixes}
 use Rattle.meaning.specs.Buffers.{Outputs, MeetsOne}
 use Rattle.meaning.specs.Entries.{◌and_then◌, IsGroupPrefixes}
+use Rattle.prefixes.specs.declared.entry.Entry.{Entry}
 use Rattle.prefixes.specs.Distinct.{add_all}
 use Rattle.prefixes.specs.Table.{table_texts, Entries}
 
@@ -24,22 +25,15 @@ group_prefixes op specs = read_specs op specs and_then λ group. accepted (some 
 abbrev pub texts_most : ℕ
 texts_most = 6 * spec_count
 
--- room for the texts of n specs: an entry for each, of three numbers
+-- room for the texts of n specs
 abbrev pub table_room : ℕ → ℕ
-table_room n = 3 * (6 * n)
+table_room n = 6 * n
 
--- how many specs small tables have room for
-abbrev pub few_specs : ℕ
-few_specs = 16
-
--- and how many bytes their list may have
-abbrev pub short_list : ℕ
-short_list = 64 * few_specs
-
--- a table of c entries holds them
-pub record Collected (op : ℕ) (specs : Text) (group : List Spec) (table : List ℕ) (c : ℕ) : Type 0 where
-  pub entries : Entries (length specs) table c
-  pub holds : table_texts specs table c ≡ group_texts op group
+-- the first c entries of a table hold them
+pub record Collected (op : ℕ) (specs : Text) (group : List Spec) (table : List Entry) (c : ℕ) : Type 0 where
+  pub room : c ≤ length table
+  pub entries : Entries (length specs) (take c table)
+  pub holds : table_texts specs (take c table) ≡ group_texts op group
   pub few : c ≤ texts_most
 
 -- what document 01 says of it: the prefix list of the group that a spec list holds, in some order, meets the buffer, and three numbers

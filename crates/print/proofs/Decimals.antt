@@ -12,7 +12,7 @@ use Rattle.meaning.specs.Limits.{decimal_digits}
 use Rattle.meaning.specs.Deliveries.{digits, decimal}
 use Rattle.buffer.specs.Splice.{splice}
 use Rattle.buffer.proofs.Splices.{splice-none}
-use Rattle.buffer.proofs.Pairs.{pair-first, pair-second, pair_put, pair_end}
+use Rattle.buffer.proofs.Pairs.{pair-first, pair_put, pair_end}
 
 -- a number below 10 is one digit
 one-digit : (k n : ℕ) → (k ≡ 0 → ⊥) → n < 10 → digits k n ≡ (48 + n % 10) ∷ []
@@ -43,9 +43,6 @@ module _ (d : Text) (at k n : ℕ) (fits : at + length (digits k n) ≤ length d
     pub one-put : (b : ℕ) → b ≡ 48 + n % 10 → (o : Text) → o ≡ splice d at (b ∷ []) → o ≡ splice d at (digits k n)
     one-put b eb o e = rw (one-digit k n some small, ← eb) e
 
-    pub one-ends : (r : ℕ) → r ≡ at + 1 → r ≡ at + length (digits k n)
-    one-ends r e = omega (arith, one-length)
-
   -- more than one
   module _ (large : 10 ≤ n) where
     pieces : digits k n ≡ digits (k - 1) (n / 10) ++ ((48 + n % 10) ∷ [])
@@ -58,9 +55,6 @@ module _ (d : Text) (at k n : ℕ) (fits : at + length (digits k n) ≤ length d
     first-room = pair-first d at (digits (k - 1) (n / 10)) ((48 + n % 10) ∷ []) both
 
     module _ (o : Text) (i : ℕ) (eo : o ≡ splice d at (digits (k - 1) (n / 10))) (ei : i ≡ at + length (digits (k - 1) (n / 10))) where
-      pub last-room : i < length o
-      last-room = omega (arith, pair-second d at (digits (k - 1) (n / 10)) ((48 + n % 10) ∷ []) both o i eo ei)
-
       pub digits-put : (b : ℕ) → b ≡ 48 + n % 10 → (p : Text) → p ≡ splice o i (b ∷ []) → p ≡ splice d at (digits k n)
       digits-put b eb p e = rw (pieces) (pair_put d at (digits (k - 1) (n / 10)) ((48 + n % 10) ∷ []) both o i eo ei p (rw (← eb) e))
 
@@ -74,9 +68,6 @@ none-counted k n e = rw e refl
 module _ (k n : ℕ) (some : k ≡ 0 → ⊥) where
   pub one-counted : n < 10 → 1 ≡ length (digits k n)
   one-counted h = rw (one-digit k n some h) refl
-
-  pub more-counted : 10 ≤ n → (r : ℕ) → r ≡ length (digits (k - 1) (n / 10)) → r + 1 ≡ length (digits k n)
-  more-counted h r e = rw (more-digits k n some h) (omega (arith, length-append (digits (k - 1) (n / 10)) ((48 + n % 10) ∷ [])))
 
 -- never more than are asked for
 pub digits-few : (k n : ℕ) → length (digits k n) ≤ k

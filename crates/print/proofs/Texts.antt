@@ -1,10 +1,8 @@
 -- A text in print, byte by byte. Assumes nothing.
-use mathlib.Core.Path.{◌≡◌, sym, ap, ◌∙◌}
-use mathlib.Core.Bool.{Bool, true, false}
+use mathlib.Core.Path.{◌≡◌, ap}
 use mathlib.Core.List.{[], ◌∷◌, ◌++◌}
 use Prim.Native.Nat.{ℕ, ◌+◌, ◌*◌, ◌/◌, ◌%◌, ◌<◌, ◌≤◌}
 use native.Mathlib.Omega.{arith}
-use borrow.Author.Tests.{lt-ltb, le-ltb}
 use mir.Val.{Fits}
 use mir.Syntax.{w64}
 use lib.ListN.{length, get_or, drop, length-append}
@@ -15,51 +13,8 @@ use Rattle.buffer.specs.Splice.{splice}
 use Rattle.text.proofs.Rests.{rest-cons, rest_end}
 use Rattle.buffer.proofs.Pairs.{pair-second, pair_put, pair_end}
 use Rattle.buffer.proofs.Threes.{three-put}
-use Rattle.buffer.proofs.Writing.{Writing, writing-starts, writing-room, writing_more, written-place, written-whole}
-use Rattle.print.specs.Lines.{printable, coded}
-
--- a capital digit
-pub digit_low : (n : ℕ) → n < 10 → 48 + n ≡ capital_digit n
-digit_low n h = rw (lt-ltb n 10 h)
-
-pub digit-high : (n : ℕ) → 10 ≤ n → 55 + n ≡ capital_digit n
-digit-high n h = rw (le-ltb n 10 h)
-
--- one byte, by what was answered of it
-module _ (b : ℕ) (r : Bool) (e : r ≡ printable b) where
-  as-it-is : r ≡ true → shown_byte b ≡ b ∷ []
-  unfolding shown_byte
-  as-it-is y = rw (sym e ∙ y)
-
-  as_code : r ≡ false → shown_byte b ≡ coded b
-  unfolding shown_byte coded
-  as_code n = rw (sym e ∙ n)
-
-  pub byte_one : r ≡ true → 1 ≡ length (shown_byte b)
-  byte_one y = rw (as-it-is y)
-
-  pub byte-three : r ≡ false → 3 ≡ length (shown_byte b)
-  unfolding coded
-  byte-three n = rw (as_code n)
-
-  module _ (d : Text) (at : ℕ) where
-    pub plain-room : r ≡ true → at + length (shown_byte b) ≤ length d → at < length d
-    plain-room y h = omega (arith, byte_one y)
-
-    pub plain-put : r ≡ true → (o : Text) → o ≡ splice d at (b ∷ []) → o ≡ splice d at (shown_byte b)
-    plain-put y o p = rw (as-it-is y) p
-
-    pub plain-ends : r ≡ true → (i : ℕ) → i ≡ at + 1 → i ≡ at + length (shown_byte b)
-    plain-ends y i p = omega (arith, byte_one y)
-
-    pub coded-room : r ≡ false → at + length (shown_byte b) ≤ length d → at + 3 ≤ length d
-    coded-room n h = omega (arith, byte-three n)
-
-    pub coded-put : r ≡ false → (o : Text) → o ≡ splice d at (coded b) → o ≡ splice d at (shown_byte b)
-    coded-put n o p = rw (as_code n) p
-
-    pub coded-ends : r ≡ false → (i : ℕ) → i ≡ at + 3 → i ≡ at + length (shown_byte b)
-    coded-ends n i p = omega (arith, byte-three n)
+use Rattle.buffer.proofs.Writing.{Writing, writing-starts, writing_more, written-place, written-whole}
+use Rattle.print.specs.Lines.{coded}
 
 -- `%` and two digits, one after the other
 pub code_put :
@@ -116,10 +71,6 @@ pub record Showing (d : Text) (at : ℕ) (t out : Text) (end i : ℕ) : Type 0 w
   pub writing : Writing d at (left t 0) out end (left t i)
 
 module _ (d : Text) (at : ℕ) (t out : Text) (end i : ℕ) (s : Showing d at t out end i) where
-  -- the next byte has room
-  pub showing-room : i < length t → end + length (shown_byte (get_or t i 0)) ≤ length out
-  showing-room h = writing-room d at (left t 0) out end (left t i) s.writing (shown_byte (get_or t i 0)) (left t (i + 1)) (left-next t i h)
-
   -- one byte more
   pub showing-more : i < length t → (next : Text) (j : ℕ) → next ≡ splice out end (shown_byte (get_or t i 0)) → j ≡ end + length (shown_byte (get_or t i 0)) → Showing d at t next j (i + 1)
   showing-more h next j p e = record {

@@ -12,7 +12,7 @@ use Rattle.meaning.specs.Deliveries.{capital_digit, shown_byte, shown}
 use Rattle.promises.specs.Facts.{is_byte}
 use Rattle.promises.proofs.Laws.{and_left, and_right}
 use Rattle.print.specs.Lines.{printable}
-use Rattle.print.specs.Unshown.{Unshown, stands, fault, before, after, digit_value, escape, escaped, as_it_is, unshown_bytes, unshown, ShownBack}
+use Rattle.print.specs.Unshown.{stands, fault, before, after, digit_value, escape, escaped, as_it_is, unshown_bytes, ShownBack}
 
 -- the digit of a number below 16 stands for the number
 digit-back : (n : ℕ) → n < 16 → digit_value (capital_digit n) ≡ n

@@ -1,10 +1,13 @@
 -- What the functions write: a field with the byte after it, and a row of plain numbers and texts.
-use Rattle.std.specs.Prelude.{ℕ, ◌+◌, ◌*◌, ◌/◌, ◌%◌, Bool, true, false, not, [], ◌∷◌, ◌++◌, eqb, leb}
+use Rattle.std.specs.Prelude as prelude
+use Rattle.std.specs.Prelude.{ℕ, ◌+◌, ◌*◌, ◌/◌, ◌%◌, Bool, not, [], ◌∷◌, ◌++◌, eqb, leb, length}
+use Rattle.std.specs.Borrow.{Bor}
 use Rattle.std.proofs.Math.Option.{Option, none, some}
-use Rattle.meaning.specs.Bytes.{Text, percent, tab, line_feed, ◌and◌}
+use Rattle.meaning.specs.Bytes.{Text, percent, tab, line_feed, ◌and◌, or_empty}
 use Rattle.meaning.specs.Limits.{program_bytes, decimal_digits}
 use Rattle.meaning.specs.Rows.{Row}
 use Rattle.meaning.specs.Deliveries.{decimal, capital_digit, shown_item, shown_kind}
+use Rattle.print.specs.declared.line.Row as line
 
 -- a byte that is printed as it is
 abbrev pub printable : ℕ → Bool
@@ -42,11 +45,15 @@ line_most = 2 * decimal_digits + 6 + 2 * shown_most + 5
 abbrev pub refusal_most : ℕ
 refusal_most = 8 + decimal_digits + 1
 
--- a text that is there, or is absent
-abbrev pub optional : Bool → Text → Option Text
-optional true t = some t
-optional false t = none
+-- a text that is lent, if one is
+abbrev pub lent : prelude.Option (Bor Text) → Option Text
+lent prelude.None = none
+lent (prelude.Some t) = some t.now
 
--- a row of plain numbers and texts
-abbrev pub row_of : ℕ → ℕ → ℕ → Text → Bool → Text → Row
-row_of item spec kind source there destination = record { item = item; spec = spec; kind = kind; source = source; destination = optional there destination }
+-- and how many bytes it has
+abbrev pub lent_size : prelude.Option (Bor Text) → ℕ
+lent_size o = length (or_empty (lent o))
+
+-- the row that is printed
+abbrev pub row_meant : line.Row → Row
+row_meant r = record { item = r.item; spec = r.spec; kind = r.kind; source = r.source.now; destination = lent r.destination }

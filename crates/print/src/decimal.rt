@@ -2,7 +2,7 @@
 ghost use Rattle.std.specs.Prelude.{◌≡◌, ◌+◌, ◌≤◌, ◌%◌, length};
 ghost use Rattle.meaning.specs.Limits.{decimal_digits};
 ghost use Rattle.meaning.specs.Deliveries.{digits, decimal};
-ghost use Rattle.buffer.specs.Splice.{splice};
+ghost use Rattle.buffer.specs.Splice.{RoomFor, Puts};
 
 use buffer::put_byte;
 use limits::DECIMAL_DIGITS;
@@ -28,6 +28,7 @@ fn digits_size(k: usize, n: usize) -> usize
 }
 
 // How many digits a number has.
+#[tactic(auto, unfolding(meaning::specs::Deliveries::decimal))]
 pub(crate) fn decimal_size(n: usize) -> usize
     ensures { (result ≡ length (decimal n)) × (result ≤ decimal_digits) }
 {
@@ -36,8 +37,8 @@ pub(crate) fn decimal_size(n: usize) -> usize
 
 // Writes the digits of a number, k of them at most, and answers the place after them.
 pub fn put_digits(out: &mut [u8], at: usize, k: usize, n: usize) -> usize
-    requires { at + length (digits k n) ≤ length out.old }
-    ensures { (out.new ≡ splice out.old at (digits k n)) × (result ≡ at + length (digits k n)) }
+    requires { RoomFor out.old at (digits k n) }
+    ensures { Puts out.old at (digits k n) out.new result }
 {
     if k == 0 {
         return at;
@@ -50,9 +51,10 @@ pub fn put_digits(out: &mut [u8], at: usize, k: usize, n: usize) -> usize
 }
 
 // Writes a number, and answers the place after it.
+#[tactic(auto, unfolding(meaning::specs::Deliveries::decimal))]
 pub(crate) fn put_decimal(out: &mut [u8], at: usize, n: usize) -> usize
-    requires { at + length (decimal n) ≤ length out.old }
-    ensures { (out.new ≡ splice out.old at (decimal n)) × (result ≡ at + length (decimal n)) }
+    requires { RoomFor out.old at (decimal n) }
+    ensures { Puts out.old at (decimal n) out.new result }
 {
     put_digits(out, at, DECIMAL_DIGITS, n)
 }

@@ -2,20 +2,17 @@
 ghost use Rattle.std.specs.Prelude.{◌≡◌, ◌+◌, ◌<◌, ◌≤◌, length};
 ghost use Rattle.meaning.specs.Limits.{program_bytes};
 ghost use Rattle.meaning.specs.Deliveries.{capital_digit, shown_byte, shown};
-ghost use Rattle.buffer.specs.Splice.{splice};
+ghost use Rattle.buffer.specs.Splice.{splice, RoomFor, Puts};
 ghost use Rattle.print.specs.Lines.{printable, coded, shown_most};
 
 use buffer::put_byte;
 
 // A byte that is printed as it is: 33 to 126, but not `%`.
+#[tactic(auto, using(std::proofs::lemmas::Bool::Decides::nat_tests))]
 pub fn is_plain(b: u8) -> bool
     ensures { result ≡ printable b }
 {
-    match b {
-        b'%' => false,
-        33..=126 => true,
-        _ => false,
-    }
+    matches!(b, 33..=126) && b != b'%'
 }
 
 // A capital hexadecimal digit.
@@ -30,6 +27,7 @@ pub fn capital_digit(n: u8) -> u8
 }
 
 // How many bytes a byte takes.
+#[tactic(auto, unfolding(meaning::specs::Deliveries::shown_byte, crate::specs::Lines::coded))]
 fn byte_size(b: u8) -> usize
     ensures { (result ≡ length (shown_byte b)) × (result ≤ 3) }
 {
@@ -50,9 +48,10 @@ fn put_coded(out: &mut [u8], at: usize, b: u8) -> usize
 }
 
 // Writes a byte, and answers the place after it.
+#[tactic(auto, unfolding(meaning::specs::Deliveries::shown_byte, crate::specs::Lines::coded))]
 fn put_shown_byte(out: &mut [u8], at: usize, b: u8) -> usize
-    requires { at + length (shown_byte b) ≤ length out.old }
-    ensures { (out.new ≡ splice out.old at (shown_byte b)) × (result ≡ at + length (shown_byte b)) }
+    requires { RoomFor out.old at (shown_byte b) }
+    ensures { Puts out.old at (shown_byte b) out.new result }
 {
     if is_plain(b) {
         return put_byte(out, at, b);
@@ -66,24 +65,20 @@ pub(crate) fn shown_size(t: &[u8]) -> usize
     ensures { (result ≡ length (shown t.now)) × (result ≤ shown_most) }
 {
     let mut size = 1;
-    let mut i = 0;
-    while i < t.len() {
-        size += byte_size(t[i]);
-        i += 1;
+    for b in t {
+        size += byte_size(*b);
     }
     size
 }
 
 // Writes a text, and answers the place after it.
 pub(crate) fn put_shown(out: &mut [u8], at: usize, t: &[u8]) -> usize
-    requires { at + length (shown t.now) ≤ length out.old }
-    ensures { (out.new ≡ splice out.old at (shown t.now)) × (result ≡ at + length (shown t.now)) }
+    requires { RoomFor out.old at (shown t.now) }
+    ensures { Puts out.old at (shown t.now) out.new result }
 {
     let mut end = put_byte(out, at, b'=');
-    let mut i = 0;
-    while i < t.len() {
-        end = put_shown_byte(out, end, t[i]);
-        i += 1;
+    for b in t {
+        end = put_shown_byte(out, end, *b);
     }
     end
 }

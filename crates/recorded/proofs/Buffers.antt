@@ -21,8 +21,7 @@ use Rattle.promises.proofs.Fitting.{Short, spec-short}
 use Rattle.number.specs.Reading.{Octets}
 use Rattle.number.proofs.Bytes.{bytes-few}
 use Rattle.refspec.proofs.Fronts.{IsFront, prefix-front}
-use Rattle.recorded.specs.declared.field.Next.{Next}
-use Rattle.recorded.specs.declared.field.Next.TheVariants.{Differs}
+use Rattle.std.specs.Prelude as std
 use Rattle.recorded.specs.Record.{sized, sized_room, prefixes_bytes}
 use Rattle.recorded.specs.Field.{field_at}
 use Rattle.recorded.proofs.Fields.{field-missed, text-too-long}
@@ -90,11 +89,11 @@ module _ (op : ℕ) (t entry exit : Text) (refusal record_number size : ℕ) (m 
     canonical-is s e = (one (canonical_text op s) entry exit refusal record_number size (rw e at m) z).is
 
     -- a field that is the canonical text
-    pub found-canonical : (told : Text) (at : ℕ) (r : Next) → r ≡ field_at told at (sized (take size exit)) → (s : Spec) → read_spec op t ≡ accepted s → r ≡ field_at told at (sized (canonical_text op s))
+    pub found-canonical : (told : Text) (at : ℕ) (r : std.Option ℕ) → r ≡ field_at told at (sized (take size exit)) → (s : Spec) → read_spec op t ≡ accepted s → r ≡ field_at told at (sized (canonical_text op s))
     found-canonical told at r f s e = rw (canonical-is s e) at f
 
   -- a text for which there is no room is in no record
-  pub canonical-long : (refusal ≡ 0 → ⊥) → sized_room ≤ length entry → (told : Text) (at : ℕ) → Octets told → (s : Spec) → read_spec op t ≡ accepted s → Differs ≡ field_at told at (sized (canonical_text op s))
+  pub canonical-long : (refusal ≡ 0 → ⊥) → sized_room ≤ length entry → (told : Text) (at : ℕ) → Octets told → (s : Spec) → read_spec op t ≡ accepted s → std.None ≡ field_at told at (sized (canonical_text op s))
   unfolding to_bstring
   canonical-long z h told at o s e =
       let l = one-long (canonical_text op s) entry exit refusal record_number size (rw e at m) z in
@@ -183,11 +182,11 @@ module _ (op : ℕ) (t entry exit : Text) (refusal record_number size : ℕ) (m 
         go (refused k r) e n = omega (arith, prefixes-count, nothing k r entry exit refusal record_number size n)
 
     -- fields that are the prefixes
-    pub found-prefixes : (told : Text) (at : ℕ) (r : Next) → ((l : List Text) → take size exit ≡ record_bytes l → r ≡ field_at told at (prefixes_bytes l)) → (s : Spec) → read_spec op t ≡ accepted s → r ≡ field_at told at (prefixes_bytes (expand_prefixes op s))
+    pub found-prefixes : (told : Text) (at : ℕ) (r : std.Option ℕ) → ((l : List Text) → take size exit ≡ record_bytes l → r ≡ field_at told at (prefixes_bytes l)) → (s : Spec) → read_spec op t ≡ accepted s → r ≡ field_at told at (prefixes_bytes (expand_prefixes op s))
     found-prefixes told at r f s e = f (expand_prefixes op s) (prefixes-are s e)
 
   -- there is room for them
-  pub prefixes-room : (refusal ≡ 0 → ⊥) → sized_room ≤ length entry → (told : Text) (at : ℕ) (s : Spec) → read_spec op t ≡ accepted s → Differs ≡ field_at told at (prefixes_bytes (expand_prefixes op s))
+  pub prefixes-room : (refusal ≡ 0 → ⊥) → sized_room ≤ length entry → (told : Text) (at : ℕ) (s : Spec) → read_spec op t ≡ accepted s → std.None ≡ field_at told at (prefixes_bytes (expand_prefixes op s))
   unfolding expanded
   prefixes-room z h told at s e =
       let l = one-long (record_bytes (expand_prefixes op s)) entry exit refusal record_number size (rw e at m) z in

@@ -1,5 +1,5 @@
 -- Fields that stand one after the other. Assumes nothing.
-use Prim.Native.Nat.{ℕ, suc, ◌+◌, ◌-◌, ◌*◌, ◌/◌, ◌%◌, ◌≤◌, ◌<◌}
+use Prim.Native.Nat.{ℕ, suc, ◌+◌, ◌-◌, ◌/◌, ◌%◌, ◌≤◌, ◌<◌}
 use native.Mathlib.Omega.{arith}
 use mathlib.Core.Path.{◌≡◌, refl, sym, ap, ◌∙◌}
 use mathlib.Core.Bool.{Bool, true, false, cond}
@@ -11,10 +11,10 @@ use lib.Seq.{drop-drop, drop_at, take_at, get_or-drop}
 use Rattle.meaning.specs.Bytes.{Text, ◌and◌, same, begins}
 use Rattle.text.proofs.Rests.{rest-cons, rest_part}
 use Rattle.number.specs.Reading.{Octets}
-use Rattle.recorded.specs.declared.field.Next.{Next}
-use Rattle.recorded.specs.declared.field.Next.TheVariants.{At, Differs}
+use Rattle.std.specs.Prelude.{Option, Some, None}
+use Rattle.std.specs.Option.{option_eq}
 use Rattle.recorded.specs.Record.{sized, sized_room}
-use Rattle.recorded.specs.Field.{field_at, Stands}
+use Rattle.recorded.specs.Field.{field_at, LengthTold, Stands}
 
 -- what follows the same text is the same
 pub append_left : (a b c : Text) → a ++ b ≡ a ++ c → b ≡ c
@@ -73,15 +73,15 @@ never false h = refl
 
 module _ (s : Text) (at : ℕ) (want : Text) where
   -- the two answers
-  pub field-yes : (b : Bool) → b ≡ begins want (take (length s - at) (drop at s)) → b ≡ true → At (at + length want) ≡ field_at s at want
+  pub field-yes : (b : Bool) → b ≡ begins want (take (length s - at) (drop at s)) → b ≡ true → Some (at + length want) ≡ field_at s at want
   unfolding field_at
   field-yes b e t = let q : begins want (drop at s) ≡ true = sym (rw (rest_part s at) at e) ∙ t in rw q
 
-  pub field-no : (b : Bool) → b ≡ begins want (take (length s - at) (drop at s)) → b ≡ false → Differs ≡ field_at s at want
+  pub field-no : (b : Bool) → b ≡ begins want (take (length s - at) (drop at s)) → b ≡ false → None ≡ field_at s at want
   unfolding field_at
   field-no b e t = let q : begins want (drop at s) ≡ false = sym (rw (rest_part s at) at e) ∙ t in rw q
 
-  pub field-missed : begins want (drop at s) ≡ false → Differs ≡ field_at s at want
+  pub field-missed : begins want (drop at s) ≡ false → None ≡ field_at s at want
   unfolding field_at
   field-missed e = rw e
 
@@ -94,35 +94,35 @@ module _ (s : Text) (at : ℕ) (want : Text) where
     here : begins want (drop at s) ≡ true
     ends : n ≡ at + length want
 
-  met : (n : ℕ) → At n ≡ field_at s at want → Met n
+  met : (n : ℕ) → Some n ≡ field_at s at want → Met n
   unfolding field_at
   met n = go (begins want (drop at s)) refl
     where
-      go : (b : Bool) → begins want (drop at s) ≡ b → At n ≡ cond b (At (at + length want)) Differs → Met n
+      go : (b : Bool) → begins want (drop at s) ≡ b → Some n ≡ cond b (Some (at + length want)) None → Met n
       go true e q = record { here = e; ends = cc }
       go false e q = absurd (let z : ◌≡◌ {A = ℕ} 0 1 = cc in omega arith)
 
-  pub missed : Differs ≡ field_at s at want → begins want (drop at s) ≡ false
+  pub missed : None ≡ field_at s at want → begins want (drop at s) ≡ false
   unfolding field_at
   missed = go (begins want (drop at s)) refl
     where
-      go : (b : Bool) → begins want (drop at s) ≡ b → Differs ≡ cond b (At (at + length want)) Differs → begins want (drop at s) ≡ false
+      go : (b : Bool) → begins want (drop at s) ≡ b → None ≡ cond b (Some (at + length want)) None → begins want (drop at s) ≡ false
       go true e q = absurd (let z : ◌≡◌ {A = ℕ} 0 1 = cc in omega arith)
       go false e q = e
 
   module _ (h : at ≤ length s) where
     -- what is found stands there
-    pub field-stands : (r : Next) (n : ℕ) → r ≡ field_at s at want → r ≡ At n → Stands s at want n
+    pub field-stands : (r : Option ℕ) (n : ℕ) → r ≡ field_at s at want → r ≡ Some n → Stands s at want n
     field-stands r n e q =
         let m = met n (sym q ∙ e) in
         let f = front want (drop at s) m.here in
         rw m.ends (record { is = f.is ∙ ap (λ (l : Text). want ++ l) (drop-drop (length want) at s); within = omega (arith, f.few, length-drop at s) })
 
-    pub field-within : (r : Next) (n : ℕ) → r ≡ field_at s at want → r ≡ At n → n ≤ length s
+    pub field-within : (r : Option ℕ) (n : ℕ) → r ≡ field_at s at want → r ≡ Some n → n ≤ length s
     field-within r n e q = (field-stands r n e q).within
 
     -- what stands there is found
-    pub stands-field : (n : ℕ) → Stands s at want n → At n ≡ field_at s at want
+    pub stands-field : (n : ℕ) → Stands s at want n → Some n ≡ field_at s at want
     unfolding field_at
     stands-field n t =
         let b : begins want (drop at s) ≡ true = rw t.is (begins-own want (drop n s)) in
@@ -130,15 +130,15 @@ module _ (s : Text) (at : ℕ) (want : Text) where
         rw (b, ← l)
 
 -- ---- one field after another
-module _ (s : Text) (at : ℕ) (a : Text) (r : Next) (e : r ≡ field_at s at a) where
-  module _ (n : ℕ) (q : r ≡ At n) where
+module _ (s : Text) (at : ℕ) (a : Text) (r : Option ℕ) (e : r ≡ field_at s at a) where
+  module _ (n : ℕ) (q : r ≡ Some n) where
     there : Met s at a n
     there = met s at a n (sym q ∙ e)
 
     left : drop (length a) (drop at s) ≡ drop n s
     left = drop-drop (length a) at s ∙ ap (λ (k : ℕ). drop k s) (sym there.ends)
 
-    pub field_both : (b : Text) (r₂ : Next) → r₂ ≡ field_at s n b → r₂ ≡ field_at s at (a ++ b)
+    pub field_both : (b : Text) (r₂ : Option ℕ) → r₂ ≡ field_at s n b → r₂ ≡ field_at s at (a ++ b)
     unfolding field_at
     field_both b r₂ f =
         let l : n + length b ≡ at + length (a ++ b) = omega (arith, there.ends, length-append a b) in
@@ -156,8 +156,8 @@ module _ (s : Text) (at : ℕ) (a : Text) (r : Next) (e : r ≡ field_at s at a)
         ends [] z = eq-eqb n (length s) (omega (arith, ap length z, length-drop n s, field-within s at a h r n e q))
         ends (x ∷ l) z = ne_eqb n (length s) (λ k. omega (arith, ap length z, length-drop n s))
 
-  module _ (q : r ≡ Differs) where
-    pub field-first : (b : Text) → Differs ≡ field_at s at (a ++ b)
+  module _ (q : r ≡ None) where
+    pub field-first : (b : Text) → None ≡ field_at s at (a ++ b)
     unfolding field_at
     field-first b = rw (begins-both a b (drop at s), missed s at a (sym q ∙ e))
 
@@ -166,6 +166,14 @@ module _ (s : Text) (at : ℕ) (a : Text) (r : Next) (e : r ≡ field_at s at a)
 
     pub field-alone : false ≡ same a (drop at s)
     field-alone = rw (← append-nil a) (field-unlike [])
+
+  -- it is the rest where it is found to end with the record
+  pub field-whole : at ≤ length s → (b : Bool) → b ≡ option_eq eqb r (Some (length s)) → b ≡ same a (drop at s)
+  field-whole h b = go r refl
+    where
+      go : (q : Option ℕ) → r ≡ q → b ≡ option_eq eqb q (Some (length s)) → b ≡ same a (drop at s)
+      go (Some n) q f = f ∙ field-last n q h
+      go None q f = f ∙ field-alone q
 
 -- ---- a length in two bytes, then a text
 
@@ -182,7 +190,7 @@ sized-once t u a b e =
 
 module _ (s : Text) (at : ℕ) (want : Text) where
   -- the record ends before the length does
-  pub text-short : length s - at < 2 → Differs ≡ field_at s at (sized want)
+  pub text-short : length s - at < 2 → None ≡ field_at s at (sized want)
   unfolding sized
   text-short h = field-missed s at (sized want) (field-never s at (sized want) (λ rest e. omega (arith, ap length e, length-append (sized want) rest, length-drop at s)))
 
@@ -198,18 +206,20 @@ module _ (s : Text) (at : ℕ) (want : Text) where
   pub text-too-long : Octets s → sized_room ≤ length want → begins (sized want) (drop at s) ≡ false
   text-too-long o h = field-never s at (sized want) (λ rest e. omega (arith, (text-size rest e).1, o (at + 1)))
 
-  module _ (room : 2 ≤ length s - at) (low high : ℕ) (el : low ≡ get_or s at 0) (eh : high ≡ get_or s (at + 1) 0) where
+  module _ (n : ℕ) (l : LengthTold s at n) where
     -- the record has another length
-    pub text-other : (length want ≡ low + high * 256 → ⊥) → Differs ≡ field_at s at (sized want)
-    text-other d = field-missed s at (sized want) (field-never s at (sized want) (λ rest e. let x = text-size rest e in d (omega (arith, x.0, x.1))))
+    pub text-other : (length want ≡ n → ⊥) → None ≡ field_at s at (sized want)
+    text-other d = field-missed s at (sized want) (field-never s at (sized want) (λ rest e. let x = text-size rest e in d (omega (arith, x.0, x.1, l.is))))
 
     -- it has this one, and the text decides
-    pub text-here : low < 256 → length want ≡ low + high * 256 → (r : Next) → r ≡ field_at s (at + 2) want → r ≡ field_at s at (sized want)
+    pub text-here : length want ≡ n → (r : Option ℕ) → r ≡ field_at s (at + 2) want → r ≡ field_at s at (sized want)
     unfolding field_at sized
-    text-here small e r f =
-        let a : length want % 256 ≡ low = omega arith in
-        let b : length want / 256 ≡ high = omega arith in
+    text-here e r f =
+        let low = get_or s at 0 in
+        let high = get_or s (at + 1) 0 in
+        let a : length want % 256 ≡ low = omega (arith, l.is, l.small) in
+        let b : length want / 256 ≡ high = omega (arith, l.is, l.small) in
         let two : at + 1 + 1 ≡ at + 2 = omega arith in
-        let l : drop at s ≡ low ∷ high ∷ drop (at + 2) s = rest-cons s at (omega arith) ∙ rw (← el, rest-cons s (at + 1) (omega arith), ← eh, two) in
-        let n : at + 2 + length want ≡ at + suc (suc (length want)) = omega arith in
-        f ∙ rw (a, b, l, eq-eqb low low refl, eq-eqb high high refl, n)
+        let cut : drop at s ≡ low ∷ high ∷ drop (at + 2) s = rest-cons s at (omega (arith, l.room)) ∙ rw (rest-cons s (at + 1) (omega (arith, l.room)), two) in
+        let size : at + 2 + length want ≡ at + suc (suc (length want)) = omega arith in
+        f ∙ rw (a, b, cut, eq-eqb low low refl, eq-eqb high high refl, size)

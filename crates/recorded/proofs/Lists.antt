@@ -19,10 +19,7 @@ use Rattle.number.specs.declared.Number.{Number}
 use Rattle.number.specs.Reading.{number_at}
 use Rattle.number.proofs.Answers.{number-stands, number-none}
 use Rattle.parse.proofs.Parts.{part_of}
-use Rattle.recorded.specs.declared.field.Next.{Next}
-use Rattle.recorded.specs.declared.field.Next.TheVariants.{At, Differs}
 use Rattle.recorded.specs.declared.list.Passed.{Passed}
-use Rattle.recorded.specs.declared.list.Passed.TheVariants as passed
 use Rattle.recorded.specs.Record.{sized, prefixes_bytes}
 use Rattle.recorded.specs.Field.{field_at, Stands, BothStand, PassedText, BothRead, PassedRecord}
 use Rattle.recorded.proofs.Fields.{append_left, begins-own, field-missed, field-never, missed, field-stands, stands-field}
@@ -30,25 +27,21 @@ use Rattle.recorded.proofs.Fields.{append_left, begins-own, field-missed, field-
 -- ---- one text of the list
 
 module _ (s : Text) (at : ℕ) (list : Text) (from n : ℕ) where
-  -- it goes beyond the list
-  pub passed_none : from ≤ length list → length list - from < n → PassedText s at list from n passed.Differs
-  passed_none h k g = absurd (omega arith)
-
-  module _ (r : Next) (e : r ≡ field_at s at (sized (take (from + n - from) (drop from list)))) where
+  module _ (r : Option ℕ) (e : r ≡ field_at s at (sized (take (from + n - from) (drop from list)))) where
     part : r ≡ field_at s at (sized (take n (drop from list)))
     part = rw (part_of list from n) at e
 
     -- it was found in the record
-    pub passed-text : at ≤ length s → (m : ℕ) → from ≤ length list → n ≤ length list - from → r ≡ At m → BothStand s at list from n m (from + n)
+    pub passed-text : at ≤ length s → (m : ℕ) → from ≤ length list → n ≤ length list - from → r ≡ Some m → BothStand s at list from n m (from + n)
     passed-text w m h k q = record { stands = field-stands s at (sized (take n (drop from list))) w r m part q; ends = refl; within = omega arith }
 
     -- it was not
-    pub passed-other : r ≡ Differs → PassedText s at list from n passed.Differs
+    pub passed-other : r ≡ None → PassedText s at list from n None
     passed-other q g = missed s at (sized (take n (drop from list))) (sym q ∙ part)
 
 module _ (list : Text) (at : ℕ) (q : Option Number) (eq : q ≡ number_at list at) where
   -- no number, no record
-  pub passed-malformed : (s : Text) (next : ℕ) → q ≡ None → PassedRecord s next list at passed.Differs
+  pub passed-malformed : (s : Text) (next : ℕ) → q ≡ None → PassedRecord s next list at None
   unfolding read_text
   passed-malformed s next is text rest e =
       let f : no 13 ≡ took text rest = rw (number-none list at (sym eq ∙ is)) at e in
@@ -63,13 +56,13 @@ module _ (list : Text) (at : ℕ) (q : Option Number) (eq : q ≡ number_at list
     reads = (number-stands list at x (sym eq ∙ is)).reads
 
     -- a text after its length is a record of the list
-    pub passed-record : (s : Text) (next : ℕ) (r : Passed) → PassedText s next list x.next x.value r → PassedRecord s next list at r
+    pub passed-record : (s : Text) (next : ℕ) (r : Option Passed) → PassedText s next list x.next x.value r → PassedRecord s next list at r
     unfolding read_text read_bytes
-    passed-record s next (passed.To m end) b =
+    passed-record s next (Some p) b =
         let room : x.value ≤ length (drop x.next list) = omega (arith, length-drop x.next list, b.within, b.ends) in
-        let rest : drop x.value (drop x.next list) ≡ drop end list = drop-drop x.value x.next list ∙ ap (λ (k : ℕ). drop k list) (sym b.ends) in
+        let rest : drop x.value (drop x.next list) ≡ drop p.at list = drop-drop x.value x.next list ∙ ap (λ (k : ℕ). drop k list) (sym b.ends) in
         record { text = take x.value (drop x.next list); reads = rw (reads, le-leb x.value (length (drop x.next list)) room, rest); stands = b.stands; within = b.within }
-    passed-record s next passed.Differs b = λ text rest e.
+    passed-record s next None b = λ text rest e.
         let f : read_bytes x.value (drop x.next list) ≡ took text rest = rw reads at e in
         let g = bytes-spelled x.value (drop x.next list) text rest f in
         let l : x.next + x.value ≤ length list = omega (arith, ap length g.0, length-append text rest, g.1, length-drop x.next list, number-within) in
@@ -126,9 +119,6 @@ none_left [] e = refl
 none_left (u ∷ us) e = absurd (omega (arith, text-within u (each us text_bytes)))
 
 module _ (s : Text) (start : ℕ) (list : Text) (l : List Text) where
-  pub passing-starts : start < length s → list ≡ record_bytes l → Passing s start list l (start + 1) 0 0
-  passing-starts h e = record { done = []; left = l; all = refl; rest = e; count = refl; stands = record { is = refl; within = omega arith } }
-
   module _ (next at k : ℕ) (p : Passing s start list l next at k) where
     passing-more : (n a : ℕ) → length list ≤ largest_number → BothRead s next list at n a → Passing s start list l n a (k + 1)
     passing-more n a h b =
@@ -144,7 +134,7 @@ module _ (s : Text) (start : ℕ) (list : Text) (l : List Text) where
           stands = rw (each_more p.done b.text) (stands-both s (start + 1) (each p.done sized) (sized b.text) next p.stands n b.stands);
         }
 
-    passing-done : (many : ℕ) → start < length s → many ≡ get_or s start 0 → many ≤ k → k ≤ many → length list ≤ at → At next ≡ field_at s start (prefixes_bytes l)
+    passing-done : (many : ℕ) → start < length s → many ≡ get_or s start 0 → many ≤ k → k ≤ many → length list ≤ at → Some next ≡ field_at s start (prefixes_bytes l)
     unfolding prefixes_bytes
     passing-done many h em ge le end =
         let z : p.left ≡ [] = none_left p.left (omega (arith, ap length p.rest, length-drop at list)) in
@@ -165,7 +155,7 @@ module _ (s : Text) (start : ℕ) (list : Text) (l : List Text) where
         (rw zero-on at c, append_left (each p.done sized) (drop next s) (each p.left sized ++ rest) g)
 
     -- the record says fewer than the list has
-    pub passing-fewer : (many : ℕ) → many ≡ get_or s start 0 → many ≤ k → at < length list → Differs ≡ field_at s start (prefixes_bytes l)
+    pub passing-fewer : (many : ℕ) → many ≡ get_or s start 0 → many ≤ k → at < length list → None ≡ field_at s start (prefixes_bytes l)
     unfolding record_bytes
     passing-fewer many em ge end =
         field-missed s start (prefixes_bytes l) (field-never s start (prefixes_bytes l) (λ rest e. go p.left refl (others-stand rest e).0))
@@ -175,7 +165,7 @@ module _ (s : Text) (start : ℕ) (list : Text) (l : List Text) where
         go (t ∷ o) q c = omega (arith, ap length p.all, length-append p.done p.left, ap length q, p.count)
 
     -- the next text of the list does not stand in the record
-    passing-other : (many : ℕ) → many ≡ get_or s start 0 → k < many → length list ≤ largest_number → PassedRecord s next list at passed.Differs → Differs ≡ field_at s start (prefixes_bytes l)
+    passing-other : (many : ℕ) → many ≡ get_or s start 0 → k < many → length list ≤ largest_number → PassedRecord s next list at None → None ≡ field_at s start (prefixes_bytes l)
     unfolding record_bytes
     passing-other many em lt h b =
         field-missed s start (prefixes_bytes l) (field-never s start (prefixes_bytes l) (λ rest e. let x = others-stand rest e in go p.left refl rest x.0 x.1))
@@ -195,26 +185,26 @@ module _ (s : Text) (start : ℕ) (list : Text) (l : List Text) where
             false≢true (sym f ∙ y)
 
 -- one turn of the loop
-module _ (s list : Text) (next at : ℕ) (r : Passed) (b : PassedRecord s next list at r) (n a : ℕ) (e : r ≡ passed.To n a) where
-  turn-read : BothRead s next list at n a
+module _ (s list : Text) (next at : ℕ) (r : Option Passed) (b : PassedRecord s next list at r) (p : Passed) (e : r ≡ Some p) where
+  turn-read : BothRead s next list at p.next p.at
   turn-read = rw e at b
 
-  pub turn-within : n ≤ length s
+  pub turn-within : p.next ≤ length s
   turn-within = turn-read.stands.within
 
-module _ (s list : Text) (next at : ℕ) (r : Passed) (b : PassedRecord s next list at r) (start k : ℕ) (all : (l : List Text) → list ≡ record_bytes l → Passing s start list l next at k) (h : length list ≤ largest_number) where
-  pub turn-passes : (n a : ℕ) → r ≡ passed.To n a → (l : List Text) → list ≡ record_bytes l → Passing s start list l n a (k + 1)
-  turn-passes n a e l q = passing-more s start list l next at k (all l q) n a h (turn-read s list next at r b n a e)
+module _ (s list : Text) (next at : ℕ) (r : Option Passed) (b : PassedRecord s next list at r) (start k : ℕ) (all : (l : List Text) → list ≡ record_bytes l → Passing s start list l next at k) (h : length list ≤ largest_number) where
+  pub turn-passes : (p : Passed) → r ≡ Some p → (l : List Text) → list ≡ record_bytes l → Passing s start list l p.next p.at (k + 1)
+  turn-passes p e l q = passing-more s start list l next at k (all l q) p.next p.at h (turn-read s list next at r b p e)
 
-  pub turn-differs : r ≡ passed.Differs → (many : ℕ) → many ≡ get_or s start 0 → k < many → (l : List Text) → list ≡ record_bytes l → Differs ≡ field_at s start (prefixes_bytes l)
+  pub turn-differs : r ≡ None → (many : ℕ) → many ≡ get_or s start 0 → k < many → (l : List Text) → list ≡ record_bytes l → None ≡ field_at s start (prefixes_bytes l)
   turn-differs e many em lt l q = passing-other s start list l next at k (all l q) many em lt h (rw e at b)
 
 -- there is no byte for their number
-pub list-none : (s : Text) (start : ℕ) → length s ≤ start → (l : List Text) → Differs ≡ field_at s start (prefixes_bytes l)
+pub list-none : (s : Text) (start : ℕ) → length s ≤ start → (l : List Text) → None ≡ field_at s start (prefixes_bytes l)
 unfolding prefixes_bytes
 list-none s start h l = field-missed s start (prefixes_bytes l) (field-never s start (prefixes_bytes l) (λ rest e. omega (arith, ap length e, length-append (prefixes_bytes l) rest, length-drop start s)))
 
 -- its end
 pub list_done : (s : Text) (start : ℕ) (list : Text) (next at k : ℕ) → ((l : List Text) → list ≡ record_bytes l → Passing s start list l next at k)
-    → (many : ℕ) → start < length s → many ≡ get_or s start 0 → many ≤ k → k ≤ many → length list ≤ at → (l : List Text) → list ≡ record_bytes l → At next ≡ field_at s start (prefixes_bytes l)
+    → (many : ℕ) → start < length s → many ≡ get_or s start 0 → many ≤ k → k ≤ many → length list ≤ at → (l : List Text) → list ≡ record_bytes l → Some next ≡ field_at s start (prefixes_bytes l)
 list_done s start list next at k all many h em ge le end l q = passing-done s start list l next at k (all l q) many h em ge le end

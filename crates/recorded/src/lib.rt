@@ -9,20 +9,18 @@ pub mod field;
 mod list;
 
 use answer::answer_agrees;
-use field::wide;
+use field::text_end;
 
 // The record tells what we answer to the spec that it names. `scratch` has room for our texts; what it holds afterwards is left open.
 pub fn agrees(told: &[u8], scratch: &mut [u8]) -> bool
     requires { sized_room ≤ length scratch.old }
     ensures { (result ≡ true) ↔ IsRecord told.now }
 {
-    if told.len() < 3 {
+    if told.is_empty() {
         return false;
     }
-    let op = wide(told[0]);
-    let end = 3 + wide(told[1]) + wide(told[2]) * 256;
-    if told.len() < end {
+    let Some(end) = text_end(told, 1) else {
         return false;
-    }
-    answer_agrees(told, end, op as u64, &told[3..end], scratch)
+    };
+    answer_agrees(told, end, u64::from(told[0]), &told[3..end], scratch)
 }

@@ -1,5 +1,5 @@
 -- A whole answer, and a whole record, from their fields. Assumes nothing.
-use Prim.Native.Nat.{ℕ, ◌+◌, ◌-◌, ◌≤◌, ◌<◌}
+use Prim.Native.Nat.{ℕ, ◌+◌, ◌-◌, ◌≤◌}
 use native.Mathlib.Omega.{arith}
 use mathlib.Core.Path.{◌≡◌, refl, sym, ap, ◌∙◌}
 use mathlib.Core.Bool.{Bool, true, false, false≢true}
@@ -19,8 +19,8 @@ use Rattle.meaning.specs.Buffers.{Outputs}
 use Rattle.meaning.specs.Entries.{◌and_then◌, match_lhs, match_rhs}
 use Rattle.text.proofs.Rests.{rest-cons, rest_end}
 use Rattle.prefixes.specs.Group.{group_texts, group_prefixes}
-use Rattle.recorded.specs.declared.field.Next.{Next}
-use Rattle.recorded.specs.declared.field.Next.TheVariants.{At, Differs}
+use Rattle.std.specs.Prelude as std
+use Rattle.std.specs.Option.{option_eq}
 use Rattle.recorded.specs.Record.{sized}
 use Rattle.recorded.specs.Field.{Stands, TextFound}
 use Rattle.recorded.proofs.Fields.{append_left, begins-own, sized-once}
@@ -35,11 +35,11 @@ then told at a rest n s e = s.is ∙ ap (λ (x : Text). a ++ x) e
 -- ---- the answer
 
 -- a listing ends within the record
-module _ (told : Text) (at op : ℕ) (specs items : Text) (r : Next) (n : ℕ) where
-  pub lhs-within : AnswerFound told at (match_lhs op specs items) r → r ≡ At n → n ≤ length told
+module _ (told : Text) (at op : ℕ) (specs items : Text) (r : std.Option ℕ) (n : ℕ) where
+  pub lhs-within : AnswerFound told at (match_lhs op specs items) r → r ≡ std.Some n → n ≤ length told
   lhs-within f e = let s : AnswerStands told at (match_lhs op specs items) n = rw e at f in s.stands.within
 
-  pub rhs-within : AnswerFound told at (match_rhs op specs items) r → r ≡ At n → n ≤ length told
+  pub rhs-within : AnswerFound told at (match_rhs op specs items) r → r ≡ std.Some n → n ≤ length told
   rhs-within f e = let s : AnswerStands told at (match_rhs op specs items) n = rw e at f in s.stands.within
 
 -- an answer that is one text tells it
@@ -80,17 +80,17 @@ module _ (op : ℕ) (specs items : Text) where
   prefixes-are group e = rw e
 
   -- what the reverse listing and the prefix list leave
-  module _ (told : Text) (at : ℕ) (r : Next) (fr : AnswerFound told at (match_rhs op specs items) r) where
+  module _ (told : Text) (at : ℕ) (r : std.Option ℕ) (fr : AnswerFound told at (match_rhs op specs items) r) where
     -- the listing is not there
-    pub back-differs : r ≡ Differs → (false ≡ true) ↔ BackThere op specs items (drop at told)
+    pub back-differs : r ≡ std.None → (false ≡ true) ↔ BackThere op specs items (drop at told)
     back-differs e = ((λ y. absurd (false≢true y)), (λ b. absurd (off b)))
       where
         off : BackThere op specs items (drop at told) → ⊥
         off b =
-            let f : AnswerFound told at (match_rhs op specs items) Differs = rw e at fr in
+            let f : AnswerFound told at (match_rhs op specs items) std.None = rw e at fr in
             false≢true (sym (f b.back b.lists_back) ∙ rw b.is (begins-own (sized b.back) (sized b.prefixes)))
 
-    module _ (next : ℕ) (er : r ≡ At next) where
+    module _ (next : ℕ) (er : r ≡ std.Some next) where
       first : AnswerStands told at (match_rhs op specs items) next
       first = rw er at fr
 
@@ -100,50 +100,46 @@ module _ (op : ℕ) (specs items : Text) where
           let t : first.text ≡ b.back = same_text first.text b.back (sym first.is ∙ b.lists_back) in
           append_left (sized b.back) (drop next told) (sized b.prefixes) (ap (λ (x : Text). sized x ++ drop next told) (sym t) ∙ sym first.stands.is ∙ b.is)
 
-      -- the prefix list is not there
-      pub prefixes-differ : (q : Next) → AnswerFound told next (group_prefixes op specs) q → q ≡ Differs → (false ≡ true) ↔ BackThere op specs items (drop at told)
-      prefixes-differ q fq e = ((λ y. absurd (false≢true y)), (λ b. absurd (off b)))
+      -- two fields, and nothing after them, or the prefix list is not there
+      pub back-there : (q : std.Option ℕ) → AnswerFound told next (group_prefixes op specs) q → (b : Bool) → b ≡ option_eq eqb q (std.Some (length told)) → (b ≡ true) ↔ BackThere op specs items (drop at told)
+      back-there q fq b e = go q fq e
         where
-          off : BackThere op specs items (drop at told) → ⊥
-          off b =
-              let f : AnswerFound told next (group_prefixes op specs) Differs = rw e at fq in
-              let z : drop next told ≡ sized b.prefixes ++ [] = then-prefixes b ∙ sym (append-nil (sized b.prefixes)) in
-              false≢true (sym (f b.prefixes b.lists-prefixes) ∙ rw z (begins-own (sized b.prefixes) []))
+          go : (q : std.Option ℕ) → AnswerFound told next (group_prefixes op specs) q → b ≡ option_eq eqb q (std.Some (length told)) → (b ≡ true) ↔ BackThere op specs items (drop at told)
+          go std.None f e = ((λ y. absurd (false≢true (sym e ∙ y))), (λ x. absurd (off x)))
+            where
+              off : BackThere op specs items (drop at told) → ⊥
+              off x =
+                  let z : drop next told ≡ sized x.prefixes ++ [] = then-prefixes x ∙ sym (append-nil (sized x.prefixes)) in
+                  false≢true (sym (f x.prefixes x.lists-prefixes) ∙ rw z (begins-own (sized x.prefixes) []))
+          go (std.Some end) w e = (is, tells)
+            where
+              is : b ≡ true → BackThere op specs items (drop at told)
+              is y =
+                  let none_left : drop end told ≡ [] = rest_end told end (omega (arith, eqb-true end (length told) (sym e ∙ y))) in
+                  let second : drop next told ≡ sized w.text = then told next (sized w.text) [] end w.stands none_left ∙ append-nil (sized w.text) in
+                  record { back = first.text; prefixes = w.text; lists_back = first.is; lists-prefixes = w.is; is = then told at (sized first.text) (sized w.text) next first.stands second }
 
-      -- two fields, and nothing after them
-      pub back-there : (end : ℕ) (q : Next) → AnswerFound told next (group_prefixes op specs) q → q ≡ At end → (eqb end (length told) ≡ true) ↔ BackThere op specs items (drop at told)
-      back-there end q fq eq = (is, tells)
-        where
-          w : AnswerStands told next (group_prefixes op specs) end
-          w = rw eq at fq
-
-          is : eqb end (length told) ≡ true → BackThere op specs items (drop at told)
-          is y =
-              let none_left : drop end told ≡ [] = rest_end told end (omega (arith, eqb-true end (length told) y)) in
-              let second : drop next told ≡ sized w.text = then told next (sized w.text) [] end w.stands none_left ∙ append-nil (sized w.text) in
-              record { back = first.text; prefixes = w.text; lists_back = first.is; lists-prefixes = w.is; is = then told at (sized first.text) (sized w.text) next first.stands second }
-
-          tells : BackThere op specs items (drop at told) → eqb end (length told) ≡ true
-          tells b =
-              let t : w.text ≡ b.prefixes = same_text w.text b.prefixes (sym w.is ∙ b.lists-prefixes) in
-              let e : sized b.prefixes ++ drop end told ≡ sized b.prefixes ++ [] = ap (λ (x : Text). sized x ++ drop end told) (sym t) ∙ sym w.stands.is ∙ then-prefixes b ∙ sym (append-nil (sized b.prefixes)) in
-              let z : drop end told ≡ [] = append_left (sized b.prefixes) (drop end told) [] e in
-              eq-eqb end (length told) (omega (arith, ap length z, length-drop end told, w.stands.within))
+              tells : BackThere op specs items (drop at told) → b ≡ true
+              tells x =
+                  let t : w.text ≡ x.prefixes = same_text w.text x.prefixes (sym w.is ∙ x.lists-prefixes) in
+                  let p : sized x.prefixes ++ drop end told ≡ sized x.prefixes ++ [] = ap (λ (y : Text). sized y ++ drop end told) (sym t) ∙ sym w.stands.is ∙ then-prefixes x ∙ sym (append-nil (sized x.prefixes)) in
+                  let z : drop end told ≡ [] = append_left (sized x.prefixes) (drop end told) [] p in
+                  e ∙ eq-eqb end (length told) (omega (arith, ap length z, length-drop end told, w.stands.within))
 
   -- a field before them
-  module _ (told : Text) (at : ℕ) (r : Next) (fr : AnswerFound told at (match_lhs op specs items) r) where
-    pub answer-differs : r ≡ Differs → (false ≡ true) ↔ IsGroupAnswer op specs items (drop at told)
+  module _ (told : Text) (at : ℕ) (r : std.Option ℕ) (fr : AnswerFound told at (match_lhs op specs items) r) where
+    pub answer-differs : r ≡ std.None → (false ≡ true) ↔ IsGroupAnswer op specs items (drop at told)
     answer-differs e = ((λ y. absurd (false≢true y)), (λ a. absurd (off a)))
       where
         off : IsGroupAnswer op specs items (drop at told) → ⊥
         off a =
-            let f : AnswerFound told at (match_lhs op specs items) Differs = rw e at fr in
+            let f : AnswerFound told at (match_lhs op specs items) std.None = rw e at fr in
             let rows = row_list_of (forward_rows a.group a.names) in
             let back = row_list_of (reverse_rows a.group a.names) in
             let list = record_bytes (group_texts op a.group) in
             false≢true (sym (f rows (forward-is a.group a.names a.reads-specs a.reads-items)) ∙ rw a.is (begins-own (sized rows) (sized back ++ sized list)))
 
-    pub answer-whole : (next : ℕ) → r ≡ At next → (b : Bool) → ((b ≡ true) ↔ BackThere op specs items (drop next told)) → (b ≡ true) ↔ IsGroupAnswer op specs items (drop at told)
+    pub answer-whole : (next : ℕ) → r ≡ std.Some next → (b : Bool) → ((b ≡ true) ↔ BackThere op specs items (drop next told)) → (b ≡ true) ↔ IsGroupAnswer op specs items (drop at told)
     answer-whole next er b f = (is, tells)
       where
         x : AnswerStands told at (match_lhs op specs items) next
@@ -181,20 +177,15 @@ module _ (op : ℕ) (specs items : Text) where
 
 module _ (told : Text) where
   -- a record has an operation
-  pub record-none : length told < 1 → (false ≡ true) ↔ IsGroupRecord told
+  pub record-none : length told ≡ 0 → (false ≡ true) ↔ IsGroupRecord told
   record-none h = ((λ y. absurd (false≢true y)), (λ g. absurd (omega (arith, ap length g.is))))
 
   -- and then its lists
   lists-follow : (g : IsGroupRecord told) → drop 1 told ≡ sized g.specs ++ (sized g.items ++ g.answer)
   lists-follow g = ap (drop 1) g.is
 
-  module _ (p : Next) (fp : TextFound told 1 p) where
-    pub specs-differ : p ≡ Differs → (false ≡ true) ↔ IsGroupRecord told
-    specs-differ e =
-        let f : TextFound told 1 Differs = rw e at fp in
-        ((λ y. absurd (false≢true y)), (λ g. absurd (f g.specs (sized g.items ++ g.answer) (lists-follow g))))
-
-    module _ (second : ℕ) (ep : p ≡ At second) where
+  module _ (p : std.Option ℕ) (fp : TextFound told 1 p) where
+    module _ (second : ℕ) (ep : p ≡ std.Some second) where
       abbrev specs : Text
       specs = take (second - 3) (drop 3 told)
 
@@ -202,14 +193,14 @@ module _ (told : Text) where
       specs-are : (g : IsGroupRecord told) → (specs ≡ g.specs) × (drop second told ≡ sized g.items ++ g.answer)
       specs-are g = sized-once specs g.specs (drop second told) (sized g.items ++ g.answer) (sym (text_at_lem told 1 p second fp ep).stands.is ∙ lists-follow g)
 
-      module _ (q : Next) (fq : TextFound told second q) where
-        pub items-differ : q ≡ Differs → (false ≡ true) ↔ IsGroupRecord told
+      module _ (q : std.Option ℕ) (fq : TextFound told second q) where
+        pub items-differ : q ≡ std.None → (false ≡ true) ↔ IsGroupRecord told
         items-differ e =
-            let f : TextFound told second Differs = rw e at fq in
+            let f : TextFound told second std.None = rw e at fq in
             ((λ y. absurd (false≢true y)), (λ g. absurd (f g.items g.answer (specs-are g).1)))
 
         -- the operation, both lists and the answer
-        pub record-whole : (at : ℕ) → q ≡ At at → (op : ℕ) (b : Bool) → 1 ≤ length told → op ≡ get_or told 0 0
+        pub record-whole : (at : ℕ) → q ≡ std.Some at → (op : ℕ) (b : Bool) → 1 ≤ length told → op ≡ get_or told 0 0
             → ((b ≡ true) ↔ IsGroupAnswer op (take (second - 3) (drop 3 told)) (take (at - (second + 2)) (drop (second + 2) told)) (drop at told)) → (b ≡ true) ↔ IsGroupRecord told
         record-whole at eq op b h eo f = (is, tells)
           where

@@ -19,8 +19,7 @@ use Rattle.meaning.specs.Entries.{◌and_then◌, match_lhs, match_rhs}
 use Rattle.list.proofs.Refusals.{specs-refusal, items-refusal}
 use Rattle.number.specs.Reading.{Octets}
 use Rattle.prefixes.specs.Group.{group_texts, group_prefixes}
-use Rattle.recorded.specs.declared.field.Next.{Next}
-use Rattle.recorded.specs.declared.field.Next.TheVariants.{At, Differs}
+use Rattle.std.specs.Prelude as std
 use Rattle.recorded.specs.Record.{sized, sized_room}
 use Rattle.recorded.specs.Field.{TextFound, front_at}
 use Rattle.recorded.proofs.Fields.{missed, field-stands, text-too-long}
@@ -29,20 +28,16 @@ use Rattle.recorded.proofs.Buffers.{one, one-long}
 use Rattle.recorded_groups.specs.GroupField.{WrittenFound, AnswerFound}
 
 -- the first text begins after the operation and two bytes
-pub first-long : (s : Text) (r : Next) (n : ℕ) → TextFound s 1 r → r ≡ At n → 3 ≤ n
+pub first-long : (s : Text) (r : std.Option ℕ) (n : ℕ) → TextFound s 1 r → r ≡ std.Some n → 3 ≤ n
 first-long s r n f e = text-long s 1 r n f e
 
 -- ---- a text that a call writes
 
 module _ (s : Text) (at : ℕ) (out : Text) (refusal size : ℕ) where
-  -- a refusal
-  pub written-refused : (refusal ≡ 0 → ⊥) → WrittenFound s at out refusal size Differs
-  written-refused d z h = absurd (d z)
-
-  pub written-found : at ≤ length s → (r : Next) → refusal ≡ 0 → r ≡ front_at s at out size → WrittenFound s at out refusal size r
-  written-found h (At next) z f =
-      record { passes = z; stands = field-stands s at (sized (take size out)) h (At next) next (front_fits s at out size (At next) f (front-room s at out size (At next) f next refl)) refl }
-  written-found h Differs z f = λ q l. missed s at (sized (take size out)) (front_fits s at out size Differs f l)
+  pub written-found : at ≤ length s → (r : std.Option ℕ) → refusal ≡ 0 → r ≡ front_at s at out size → WrittenFound s at out refusal size r
+  written-found h (std.Some next) z f =
+      record { passes = z; stands = field-stands s at (sized (take size out)) h (std.Some next) next (front_fits s at out size (std.Some next) f (front-room s at out size (std.Some next) f next refl)) refl }
+  written-found h std.None z f = λ q l. missed s at (sized (take size out)) (front_fits s at out size std.None f l)
 
 -- an answer is one text, or a refusal with a number above 0
 data OneText (answer : Answer Outputs) : Type 0 where
@@ -61,7 +56,7 @@ module _ (answer : Answer Outputs) (entry exit : Text) (refusal record_number si
       absurd (omega arith)
 
   -- one text that is not found is not in the record
-  text-off : (s : Text) (at : ℕ) → Octets s → sized_room ≤ length entry → WrittenFound s at exit refusal size Differs → (text : Text) → answer ≡ accepted (some text ∷ []) → begins (sized text) (drop at s) ≡ false
+  text-off : (s : Text) (at : ℕ) → Octets s → sized_room ≤ length entry → WrittenFound s at exit refusal size std.None → (text : Text) → answer ≡ accepted (some text ∷ []) → begins (sized text) (drop at s) ≡ false
   text-off s at o h f text e = go (eqb refusal 0) refl
     where
       n : MeetsOne (accepted (some text ∷ [])) entry exit refusal record_number size
@@ -73,9 +68,9 @@ module _ (answer : Answer Outputs) (entry exit : Text) (refusal record_number si
           rw w.is at (f (eqb-true refusal 0 z) w.few)
       go false z = text-too-long s at text o (omega (arith, one-long text entry exit refusal record_number size n (eqb-false refusal 0 z)))
 
-  answer-found : OneText answer → (s : Text) (at : ℕ) → Octets s → sized_room ≤ length entry → (r : Next) → WrittenFound s at exit refusal size r → AnswerFound s at answer r
-  answer-found o s at w h (At next) f = record { text = take size exit; is = wrote f.passes o; stands = f.stands }
-  answer-found o s at w h Differs f = text-off s at w h f
+  answer-found : OneText answer → (s : Text) (at : ℕ) → Octets s → sized_room ≤ length entry → (r : std.Option ℕ) → WrittenFound s at exit refusal size r → AnswerFound s at answer r
+  answer-found o s at w h (std.Some next) f = record { text = take size exit; is = wrote f.passes o; stands = f.stands }
+  answer-found o s at w h std.None f = text-off s at w h f
 
 -- what refuses does so with a number above 0
 abbrev Positive : {A : Type 0} → Answer A → Type 0
@@ -90,7 +85,7 @@ one_list : (f : List Spec → Text) (a : Answer (List Spec)) → Positive a → 
 one_list f (refused n r) p = is-refusal n r (p n r refl) refl
 one_list f (accepted group) p = is-text (f group) refl
 
-module _ (op : ℕ) (specs entry exit : Text) (refusal record_number size : ℕ) (s : Text) (at : ℕ) (o : Octets s) (h : sized_room ≤ length entry) (r : Next) (f : WrittenFound s at exit refusal size r) where
+module _ (op : ℕ) (specs entry exit : Text) (refusal record_number size : ℕ) (s : Text) (at : ℕ) (o : Octets s) (h : sized_room ≤ length entry) (r : std.Option ℕ) (f : WrittenFound s at exit refusal size r) where
   pub prefixes-found : MeetsOne (group_prefixes op specs) entry exit refusal record_number size → AnswerFound s at (group_prefixes op specs) r
   unfolding group_prefixes
   prefixes-found m =

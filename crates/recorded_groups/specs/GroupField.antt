@@ -1,13 +1,11 @@
 -- What holding a field of a group's record to its bytes finds.
-use Rattle.std.specs.Prelude.{ℕ, ◌≤◌, ◌≡◌, false, [], ◌∷◌, ◌++◌, length, take, drop}
+use Rattle.std.specs.Prelude.{ℕ, ◌≤◌, ◌≡◌, false, Option, Some, None, [], ◌∷◌, ◌++◌, length, take, drop}
 use Rattle.std.proofs.Math.Option.{some}
 use Rattle.meaning.specs.Bytes.{Text, begins}
 use Rattle.meaning.specs.Spec.{Answer, accepted}
 use Rattle.meaning.specs.Buffers.{Outputs}
 use Rattle.meaning.specs.Entries.{match_rhs}
 use Rattle.prefixes.specs.Group.{group_prefixes}
-use Rattle.recorded.specs.declared.field.Next.{Next}
-use Rattle.recorded.specs.declared.field.Next.TheVariants.{At, Differs}
 use Rattle.recorded.specs.Record.{sized}
 use Rattle.recorded.specs.Field.{Stands}
 
@@ -17,9 +15,9 @@ pub record WrittenStands (s : Text) (at : ℕ) (out : Text) (refusal size next :
   pub stands : Stands s at (sized (take size out)) next
 
 -- what is told of a buffer's front: it stands in s, or the call refused something, or it does not
-abbrev pub WrittenFound : Text → ℕ → Text → ℕ → ℕ → Next → Type 0
-WrittenFound s at out refusal size (At next) = WrittenStands s at out refusal size next
-WrittenFound s at out refusal size Differs = refusal ≡ 0 → size ≤ length out → begins (sized (take size out)) (drop at s) ≡ false
+abbrev pub WrittenFound : Text → ℕ → Text → ℕ → ℕ → Option ℕ → Type 0
+WrittenFound s at out refusal size (Some next) = WrittenStands s at out refusal size next
+WrittenFound s at out refusal size None = refusal ≡ 0 → size ≤ length out → begins (sized (take size out)) (drop at s) ≡ false
 
 -- an answer is one text, which stands in s
 pub record AnswerStands (s : Text) (at : ℕ) (answer : Answer Outputs) (next : ℕ) : Type 0 where
@@ -28,9 +26,9 @@ pub record AnswerStands (s : Text) (at : ℕ) (answer : Answer Outputs) (next : 
   pub stands : Stands s at (sized text) next
 
 -- what is told of an answer: it is one text, which stands in s, or which does not
-abbrev pub AnswerFound : Text → ℕ → Answer Outputs → Next → Type 0
-AnswerFound s at answer (At next) = AnswerStands s at answer next
-AnswerFound s at answer Differs = (text : Text) → answer ≡ accepted (some text ∷ []) → begins (sized text) (drop at s) ≡ false
+abbrev pub AnswerFound : Text → ℕ → Answer Outputs → Option ℕ → Type 0
+AnswerFound s at answer (Some next) = AnswerStands s at answer next
+AnswerFound s at answer None = (text : Text) → answer ≡ accepted (some text ∷ []) → begins (sized text) (drop at s) ≡ false
 
 -- these bytes are the rows of the reverse listing and the prefix list
 pub record BackThere (op : ℕ) (specs items bytes : Text) : Type 0 where

@@ -1,15 +1,14 @@
 -- A whole record: two texts, and the report on them. Assumes nothing.
 use Prim.Native.Nat.{ℕ, ◌+◌, ◌-◌, ◌≤◌}
-use mathlib.Core.Path.{◌≡◌, refl, sym, ap, ◌∙◌}
+use mathlib.Core.Path.{◌≡◌, sym, ap, ◌∙◌}
 use mathlib.Core.Bool.{Bool, true, false, false≢true}
 use mathlib.Core.Logic.{◌↔◌}
 use mathlib.Core.List.{◌++◌}
-use lib.ListN.{length, take, drop}
+use lib.ListN.{take, drop}
 use Rattle.meaning.specs.Bytes.{Text, same}
 use Rattle.meaning.specs.Collide.{collide}
 use Rattle.promises.proofs.Laws.{same-is, same_refl}
-use Rattle.recorded.specs.declared.field.Next.{Next}
-use Rattle.recorded.specs.declared.field.Next.TheVariants.{At, Differs}
+use Rattle.std.specs.Prelude.{Option, Some, None}
 use Rattle.recorded.specs.Record.{sized}
 use Rattle.recorded.specs.Field.{TextFound}
 use Rattle.recorded.proofs.Fields.{sized-once}
@@ -17,7 +16,7 @@ use Rattle.recorded.proofs.Texts.{text_at_lem, text-long}
 use Rattle.recorded_pairs.specs.PairRecord.{report_bytes, pair_record, IsPairRecord}
 
 -- the first text begins after the two bytes of its length
-pub first-long : (s : Text) (r : Next) (n : ℕ) → TextFound s 0 r → r ≡ At n → 2 ≤ n
+pub first-long : (s : Text) (r : Option ℕ) (n : ℕ) → TextFound s 0 r → r ≡ Some n → 2 ≤ n
 first-long s r n f e = text-long s 0 r n f e
 
 module _ (told : Text) where
@@ -26,13 +25,13 @@ module _ (told : Text) where
   unfolding pair_record
   texts-follow g = g.is
 
-  module _ (p : Next) (fp : TextFound told 0 p) where
-    pub first-differs : p ≡ Differs → (false ≡ true) ↔ IsPairRecord told
+  module _ (p : Option ℕ) (fp : TextFound told 0 p) where
+    pub first-differs : p ≡ None → (false ≡ true) ↔ IsPairRecord told
     first-differs e =
-        let f : TextFound told 0 Differs = rw e at fp in
+        let f : TextFound told 0 None = rw e at fp in
         ((λ y. absurd (false≢true y)), (λ g. absurd (f g.first (sized g.second ++ report_bytes (collide g.first g.second)) (texts-follow g))))
 
-    module _ (from : ℕ) (ep : p ≡ At from) where
+    module _ (from : ℕ) (ep : p ≡ Some from) where
       abbrev first : Text
       first = take (from - 2) (drop 2 told)
 
@@ -41,14 +40,14 @@ module _ (told : Text) where
       first-is g =
           sized-once first g.first (drop from told) (sized g.second ++ report_bytes (collide g.first g.second)) (sym (text_at_lem told 0 p from fp ep).stands.is ∙ texts-follow g)
 
-      module _ (q : Next) (fq : TextFound told from q) where
-        pub second-differs : q ≡ Differs → (false ≡ true) ↔ IsPairRecord told
+      module _ (q : Option ℕ) (fq : TextFound told from q) where
+        pub second-differs : q ≡ None → (false ≡ true) ↔ IsPairRecord told
         second-differs e =
-            let f : TextFound told from Differs = rw e at fq in
+            let f : TextFound told from None = rw e at fq in
             ((λ y. absurd (false≢true y)), (λ g. absurd (f g.second (report_bytes (collide g.first g.second)) (first-is g).1)))
 
         -- both texts and the report
-        pub record-whole : (at : ℕ) → q ≡ At at → (b : Bool) → b ≡ same (report_bytes (collide (take (from - 2) (drop 2 told)) (take (at - (from + 2)) (drop (from + 2) told)))) (drop at told) → (b ≡ true) ↔ IsPairRecord told
+        pub record-whole : (at : ℕ) → q ≡ Some at → (b : Bool) → b ≡ same (report_bytes (collide (take (from - 2) (drop 2 told)) (take (at - (from + 2)) (drop (from + 2) told)))) (drop at told) → (b ≡ true) ↔ IsPairRecord told
         unfolding pair_record
         record-whole at eq b f = (is, tells)
           where

@@ -5,7 +5,7 @@ use mathlib.Core.Path.{◌≡◌, refl, sym, ap, ◌∙◌}
 use mathlib.Core.Bool.{Bool, true, false, false≢true}
 use mathlib.Core.List.{[], ◌∷◌, ◌++◌, append-nil}
 use mathlib.Core.Option.{Option, none, some}
-use borrow.Author.Tests.{leb-true, leb-false}
+use borrow.Author.Tests.{leb-false}
 use lib.Dec.{leb, eqb}
 use lib.ListN.{length, take, drop, length-append}
 use lib.Seq.{drop-drop, take_at}
@@ -16,11 +16,11 @@ use Rattle.meaning.specs.Entries.{◌and_then◌}
 use Rattle.meaning.specs.Collide.{collide, collide_bytes}
 use Rattle.promises.proofs.Laws.{same-is}
 use Rattle.number.specs.Reading.{Octets}
-use Rattle.recorded.specs.declared.field.Next.{Next}
-use Rattle.recorded.specs.declared.field.Next.TheVariants.{At, Differs}
+use Rattle.std.specs.Prelude as std
+use Rattle.std.specs.Option.{option_eq}
 use Rattle.recorded.specs.Record.{sized, sized_room}
 use Rattle.recorded.specs.Field.{field_at, front_at}
-use Rattle.recorded.proofs.Fields.{never, begins-own, text-too-long, field-within, field-then, field-last, field-unlike, field-alone}
+use Rattle.recorded.proofs.Fields.{never, begins-own, text-too-long, field-within, field-then, field-whole, field-unlike}
 use Rattle.recorded.proofs.Texts.{front_fits, front-room}
 use Rattle.recorded_pairs.specs.PairRecord.{report_bytes}
 
@@ -80,7 +80,7 @@ long-off told at d o h = never (same (0 ∷ 0 ∷ 1 ∷ sized d) (drop at told))
         false≢true (sym (text-too-long told (at + 3) d o h) ∙ rw is (begins-own (sized d) []))
 
 module _ (first second entry exit : Text) (refusal which mark size : ℕ) (m : MeetsMaybe (collide_bytes first second) entry exit refusal which mark size) (room : sized_room ≤ length entry)
-    (told : Text) (at : ℕ) (o : Octets told) (r : Next) (f : r ≡ field_at told at (refusal ∷ which ∷ mark ∷ [])) where
+    (told : Text) (at : ℕ) (o : Octets told) (r : std.Option ℕ) (f : r ≡ field_at told at (refusal ∷ which ∷ mark ∷ [])) where
   told-so : Says (collide first second) entry exit refusal which mark size
   unfolding collide_bytes
   told-so = says entry exit refusal which mark size (collide first second) m
@@ -90,33 +90,27 @@ module _ (first second entry exit : Text) (refusal which mark size : ℕ) (m : M
   none-such d e l = rw e (sym (long-off told at d o (omega arith)))
 
   -- the numbers differ
-  pub numbers-differ : r ≡ Differs → false ≡ same (report_bytes (collide first second)) (drop at told)
+  pub numbers-differ : r ≡ std.None → false ≡ same (report_bytes (collide first second)) (drop at told)
   numbers-differ e = go told-so
     where
       go : Says (collide first second) entry exit refusal which mark size → false ≡ same (report_bytes (collide first second)) (drop at told)
       go (fits l i) = rw i (field-unlike told at (refusal ∷ which ∷ mark ∷ []) r f e (sized (take size exit)))
       go (long l d i k) = none-such d i k
 
-  module _ (next : ℕ) (e : r ≡ At next) (q : Next) (g : q ≡ front_at told next exit size) where
-    -- the destination differs
-    pub destination-differs : q ≡ Differs → false ≡ same (report_bytes (collide first second)) (drop at told)
-    destination-differs d = go told-so
-      where
-        go : Says (collide first second) entry exit refusal which mark size → false ≡ same (report_bytes (collide first second)) (drop at told)
-        go (fits l i) =
-            let t = sized (take size exit) in
-            rw i (field-then told at (refusal ∷ which ∷ mark ∷ []) r f next e false t (field-alone told next t q (front_fits told next exit size q g l) d))
-        go (long l t i k) = none-such t i k
-
-    -- it is the last field, or more follows
-    pub report-whole : at ≤ length told → (end : ℕ) → q ≡ At end → eqb end (length told) ≡ same (report_bytes (collide first second)) (drop at told)
-    report-whole h end d = go told-so
+  module _ (next : ℕ) (e : r ≡ std.Some next) (q : std.Option ℕ) (g : q ≡ front_at told next exit size) where
+    -- the destination is the last field, or it differs, or more follows
+    pub report-whole : at ≤ length told → (b : Bool) → b ≡ option_eq eqb q (std.Some (length told)) → b ≡ same (report_bytes (collide first second)) (drop at told)
+    report-whole h b d = go told-so
       where
         within : next ≤ length told
         within = field-within told at (refusal ∷ which ∷ mark ∷ []) h r next f e
 
-        go : Says (collide first second) entry exit refusal which mark size → eqb end (length told) ≡ same (report_bytes (collide first second)) (drop at told)
+        missing : length exit < size → (p : std.Option ℕ) → q ≡ p → b ≡ option_eq eqb p (std.Some (length told)) → b ≡ false
+        missing l std.None z y = y
+        missing l (std.Some end) z y = absurd (omega (arith, front-room told next exit size q g end z))
+
+        go : Says (collide first second) entry exit refusal which mark size → b ≡ same (report_bytes (collide first second)) (drop at told)
         go (fits l i) =
             let t = sized (take size exit) in
-            rw i (field-then told at (refusal ∷ which ∷ mark ∷ []) r f next e (eqb end (length told)) t (field-last told next t q (front_fits told next exit size q g l) end d within))
-        go (long l t i k) = absurd (omega (arith, front-room told next exit size q g end d))
+            rw i (field-then told at (refusal ∷ which ∷ mark ∷ []) r f next e b t (field-whole told next t q (front_fits told next exit size q g l) within b d))
+        go (long l t i k) = missing l q refl d ∙ none-such t i k

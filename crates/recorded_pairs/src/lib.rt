@@ -10,34 +10,27 @@ ghost use Rattle.recorded_pairs.specs.PairRecord.{report_bytes, IsPairRecord};
 
 use collide::answer::Collision;
 use collide::collide;
-use recorded::field::{Next, front_field, text_end, wide};
+use recorded::field::{front_field, text_end};
 
 // A number, as one byte.
-fn number_field(told: &[u8], at: usize, n: u64) -> Next
+fn number_field(told: &[u8], at: usize, n: u64) -> Option<usize>
     requires { at ≤ length told.now }
     ensures { result ≡ field_at told.now at (n ∷ []) }
 {
-    if told.len() <= at {
-        return Next::Differs;
-    }
-    let b = wide(told[at]) as u64;
+    let b = u64::from(*told.get(at)?);
     if b != n {
-        return Next::Differs;
+        return None;
     }
-    Next::At(at + 1)
+    Some(at + 1)
 }
 
 // The refusal, the spec that it is of, and the mark of a yes.
-fn numbers_field(told: &[u8], at: usize, c: Collision) -> Next
+fn numbers_field(told: &[u8], at: usize, c: Collision) -> Option<usize>
     requires { at ≤ length told.now }
     ensures { result ≡ field_at told.now at (c.refusal ∷ c.which ∷ c.collides ∷ []) }
 {
-    let Next::At(second) = number_field(told, at, c.refusal) else {
-        return Next::Differs;
-    };
-    let Next::At(third) = number_field(told, second, c.which) else {
-        return Next::Differs;
-    };
+    let second = number_field(told, at, c.refusal)?;
+    let third = number_field(told, second, c.which)?;
     number_field(told, third, c.collides)
 }
 
@@ -47,13 +40,10 @@ fn report_agrees(told: &[u8], at: usize, first: &[u8], second: &[u8], scratch: &
     ensures { result ≡ same (report_bytes (Meaning·collide first.now second.now)) (drop at told.now) }
 {
     let c = collide(first, second, scratch);
-    let Next::At(next) = numbers_field(told, at, c) else {
+    let Some(next) = numbers_field(told, at, c) else {
         return false;
     };
-    match front_field(told, next, c.length, scratch) {
-        Next::At(end) => end == told.len(),
-        Next::Differs => false,
-    }
+    front_field(told, next, c.length, scratch) == Some(told.len())
 }
 
 // The record tells what we report on the two specs that it names. `scratch` has room for a destination; what it holds afterwards is left
@@ -62,10 +52,10 @@ pub fn pair_agrees(told: &[u8], scratch: &mut [u8]) -> bool
     requires { sized_room ≤ length scratch.old }
     ensures { (result ≡ true) ↔ IsPairRecord told.now }
 {
-    let Next::At(second) = text_end(told, 0) else {
+    let Some(second) = text_end(told, 0) else {
         return false;
     };
-    let Next::At(at) = text_end(told, second) else {
+    let Some(at) = text_end(told, second) else {
         return false;
     };
     let from = second + 2;

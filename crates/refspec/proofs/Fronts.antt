@@ -1,12 +1,13 @@
 -- The prefix of a name is what it begins with, and its place denotes it. Assumes nothing.
-use Prim.Native.Nat.{ℕ, suc, ◌+◌, ◌-◌, ◌≤◌, ◌<◌}
+use Prim.Native.Nat.{ℕ, suc, ◌+◌, ◌≤◌, ◌<◌}
 use native.Mathlib.Nat.{suc-ne-zero}
 use native.Mathlib.Omega.{arith}
 use mathlib.Core.Path.{◌≡◌, refl, sym, ap, ◌∙◌}
 use mathlib.Core.Bool.{Bool, true, false, not, cond}
 use mathlib.Core.List.{[], ◌∷◌}
 use mathlib.Core.Option.{Option, none, some}
-use borrow.Author.Tests.{eqb-true, not-true, not-false}
+use Rattle.std.specs.Prelude.{None, Some}
+use borrow.Author.Tests.{eqb-true}
 use lib.Dec.{eqb}
 use lib.ListN.{length, take, drop}
 use lib.Seq.{take_all, take-take}
@@ -18,8 +19,8 @@ use Rattle.parse.specs.declared.types.Side.{Side}
 use Rattle.parse.specs.declared.types.Side.TheVariants.{Absent, Part, Head}
 use Rattle.parse.specs.declared.types.RefSpec.{RefSpec}
 use Rattle.parse.specs.Places.{mode_meant, part_at, side_meant, Within, SidesWithin, spec_meant}
-use Rattle.parse.proofs.Parts.{part_of, part_length}
-use Rattle.refspec.specs.Prefixes.{remote_place, length_or0, prefix_at, prefix_place}
+use Rattle.parse.proofs.Parts.{part_length}
+use Rattle.refspec.specs.Prefixes.{remote_place, prefix_size, prefix_at, prefix_place}
 
 -- two facts about constants
 true-not-false : true ≡ false → ⊥
@@ -75,47 +76,8 @@ a-star (x ∷ t) n = go (eqb star x) refl n (a-star t)
     go true h m f = rw h
     go false h m f = rw h (f (λ e. m (ap suc e)))
 
--- ---- how many bytes a prefix has, by the branches of `prefix_length`
-
-module _ (t : Text) where
-  module _ (h : Bool) (eh : h ≡ same t (bytes "HEAD")) where
-    -- `HEAD` is its own prefix
-    pub length-head : h ≡ true → length t ≡ length_or0 (name_prefix t)
-    unfolding name_prefix
-    length-head e = rw (sym eh ∙ e)
-
-    module _ (nh : h ≡ false) (r : Bool) (er : r ≡ begins (bytes "refs/") t) where
-      -- another name outside `refs/` has none
-      pub length-other : not r ≡ true → 0 ≡ length_or0 (name_prefix t)
-      unfolding name_prefix
-      length-other e = rw (sym eh ∙ nh, sym er ∙ not-true r e)
-
-      module _ (yr : not r ≡ false) (k : ℕ) (ek : k ≡ first_at star t) where
-        -- a name beginning `refs/` without a star is its own
-        pub length-plain : k ≡ length t → k ≡ length_or0 (name_prefix t)
-        unfolding name_prefix starred
-        length-plain e = rw (sym eh ∙ nh, sym er ∙ not-false r yr, no-star t (sym ek ∙ e)) e
-
-        module _ (ns : k ≡ length t → ⊥) (s : Bool) (es : s ≡ begins (bytes "refs/*") t) where
-          starry : starred t ≡ true
-          unfolding starred
-          starry = a-star t (λ e. ns (ek ∙ e))
-
-          -- one that begins `refs/*` has none
-          pub length-refs-star : s ≡ true → 0 ≡ length_or0 (name_prefix t)
-          unfolding name_prefix
-          length-refs-star e = rw (sym eh ∙ nh, sym er ∙ not-false r yr, starry, sym es ∙ e)
-
-          module _ (n : s ≡ false) (b : Bool) (eb : b ≡ has_byte 93 t) where
-            -- nor has a starred one with a bracket
-            pub length-bracket : b ≡ true → 0 ≡ length_or0 (name_prefix t)
-            unfolding name_prefix
-            length-bracket e = rw (sym eh ∙ nh, sym er ∙ not-false r yr, starry, sym es ∙ n, sym eb ∙ e)
-
-            -- any other has what stands before its star
-            pub length-star : b ≡ false → k ≡ length_or0 (name_prefix t)
-            unfolding name_prefix
-            length-star e = rw (sym eh ∙ nh, sym er ∙ not-false r yr, starry, sym es ∙ n, sym eb ∙ e, before-star-length t) ek
+-- what the place of the first star tells
+pub ruleset star_place = (no-star, a-star, before-star-length)
 
 -- ---- a prefix is a front
 
@@ -160,38 +122,15 @@ prefix-front t = go (same t (bytes "HEAD")) (begins (bytes "refs/") t) (starred 
     go false true true true ea eb = tt
     go false true true false ea eb = record { some_bytes = begins-some t eb; at_most = omega (arith, before-star-length t, first-within star t); front = before-star-front t }
 
--- the place of a prefix by its length
-module _ (at : ℕ) (u : Text) (o : Option Text) (is : IsFront u o) where
-  prefix-none : length_or0 o ≡ 0 → Absent ≡ prefix_at at o
-  prefix-none e = go o is e
-    where
-      go : (o : Option Text) → IsFront u o → length_or0 o ≡ 0 → Absent ≡ prefix_at at o
-      go none f z = refl
-      go (some p) f z = absurd (lt-ne f.some_bytes z)
+-- no prefix is an absent side
+pub placed_none : (at : ℕ) (o : Option Text) → prefix_size o ≡ None → prefix_at at o ≡ Absent
+placed_none at none e = refl
+placed_none at (some p) e = absurd cc
 
-  prefix-some : (length_or0 o ≡ 0 → ⊥) → Part at (length_or0 o) ≡ prefix_at at o
-  prefix-some n = go o n
-    where
-      go : (o : Option Text) → (length_or0 o ≡ 0 → ⊥) → Part at (length_or0 o) ≡ prefix_at at o
-      go none n = absurd (n refl)
-      go (some p) n = refl
-
--- the place of the prefix of the n bytes that begin at a place, by the length that `prefix_length` answers
-module _ (t : Text) (at n k : ℕ) (ek : k ≡ length_or0 (name_prefix (take (at + n - at) (drop at t)))) where
-  length-is : k ≡ length_or0 (name_prefix (part_at t at n))
-  length-is = rw part_of at ek
-
-  -- 0 is no prefix
-  pub part-prefix-none : k ≡ 0 → Absent ≡ prefix_at at (name_prefix (part_at t at n))
-  part-prefix-none e = prefix-none at (part_at t at n) (name_prefix (part_at t at n)) (prefix-front (part_at t at n)) (sym length-is ∙ e)
-
-  -- any other is the length of one
-  pub part-prefix-some : (k ≡ 0 → ⊥) → Part at k ≡ prefix_at at (name_prefix (part_at t at n))
-  part-prefix-some m = rw length-is (prefix-some at (part_at t at n) (name_prefix (part_at t at n)) (prefix-front (part_at t at n)) (λ e. m (length-is ∙ e)))
-
--- the arm of a `match` on a side that is a part
-pub prefix-of-part : (t : Text) (side r : Side) (at n : ℕ) → side ≡ Part at n → r ≡ prefix_at at (name_prefix (part_at t at n)) → r ≡ prefix_place t side
-prefix-of-part t side r at n e h = rw e h
+-- a prefix begins where its name does
+pub placed_some : (at k : ℕ) (o : Option Text) → prefix_size o ≡ Some k → prefix_at at o ≡ Part at k
+placed_some at k none e = absurd cc
+placed_some at k (some p) e = let f : length p ≡ k = cc in ap (Part at) f
 
 -- ---- the place of a prefix denotes it
 

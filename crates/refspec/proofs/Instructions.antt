@@ -1,8 +1,7 @@
 -- The instruction as places, and that it means the meaning's. Assumes nothing.
 use Prim.Native.Nat.{ℕ}
-use mathlib.Core.Path.{◌≡◌, refl, sym, ◌∙◌}
+use mathlib.Core.Path.{◌≡◌, refl}
 use mathlib.Core.Bool.{Bool, true, false, cond}
-use borrow.Author.Tests.{ne_eqb}
 use Rattle.meaning.specs.Bytes.{Text}
 use Rattle.meaning.specs.Spec.{is_negative, is_force, push}
 use Rattle.meaning.specs.Instruction.{fetch_sides, fetch_instruction, push_sides, push_instruction, instruction}
@@ -11,22 +10,9 @@ use Rattle.parse.specs.declared.types.Mode.TheVariants.{Normal, Force, Negative}
 use Rattle.parse.specs.declared.types.Side.{Side}
 use Rattle.parse.specs.declared.types.Side.TheVariants.{Absent, Part, Head}
 use Rattle.parse.specs.declared.types.RefSpec.{RefSpec}
-use Rattle.refspec.specs.declared.instruction.Instruction.{Instruction}
 use Rattle.refspec.specs.declared.instruction.Instruction.TheVariants.{FetchExclude, PushExclude}
 use Rattle.parse.specs.Places.{mode_meant, side_meant, spec_meant}
 use Rattle.refspec.specs.Instructions.{side_text, fetch_places, push_places, instruction_places, instruction_meant}
-
--- a spec that is not negative, by its operation
-module _ (op : ℕ) (r : RefSpec) (n f : Bool) (i : Instruction) (en : n ≡ is_negative (mode_meant r.mode)) (positive : n ≡ false) (ef : f ≡ is_force (mode_meant r.mode)) where
-  -- a push
-  pub instruct-push : op ≡ 1 → i ≡ push_places f r.src r.dst → i ≡ instruction_places op r
-  unfolding instruction_places
-  instruct-push o h = rw (sym en ∙ positive, o, ← ef) h
-
-  -- a fetch
-  pub instruct-fetch : (op ≡ 1 → ⊥) → i ≡ fetch_places f r.src r.dst → i ≡ instruction_places op r
-  unfolding instruction_places
-  instruct-fetch o h = rw (sym en ∙ positive, ne_eqb op 1 o, ← ef) h
 
 module _ (t : Text) (f : Bool) (src : Side) where
   -- the places of a fetch mean it

@@ -1,5 +1,6 @@
 -- The prefix of a spec as a place, and the prefix that it means.
 use Rattle.std.specs.Prelude.{ℕ, cond, length, Result, Ok, Err}
+use Rattle.std.specs.Prelude as code
 use Rattle.std.proofs.Math.Option.{Option, none, some}
 use Rattle.meaning.specs.Bytes.{Text}
 use Rattle.meaning.specs.Spec.{Answer, accepted, refused, is_negative, push}
@@ -15,10 +16,10 @@ use Rattle.parse.specs.Places.{mode_meant, part_at, side_meant, parsed}
 unfoldable pub remote_place : ℕ → RefSpec → Side
 remote_place op r = cond (is_negative (mode_meant r.mode)) Absent (cond (push op) r.dst r.src)
 
--- how many bytes a text has, 0 where there is none
-abbrev pub length_or0 : Option Text → ℕ
-length_or0 none = 0
-length_or0 (some p) = length p
+-- how many bytes a prefix has, if there is one
+abbrev pub prefix_size : Option Text → code.Option ℕ
+prefix_size none = code.None
+prefix_size (some p) = code.Some (length p)
 
 -- the place of a prefix of a name that begins at a place
 abbrev pub prefix_at : ℕ → Option Text → Side

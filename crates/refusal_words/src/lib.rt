@@ -5,6 +5,7 @@ ghost use Rattle.std.specs.Prelude.{◌≡◌};
 ghost use Rattle.refusal_words.specs.Words.{reason_words};
 
 // The words for a reason: document 01's number for a spec or for a list, or one of `text_lists`.
+// As it is: (d) a table from numbers to words, with words for any number, so no Display of a type that has fewer.
 #[tactic(auto, unfolding(crate::specs::Words::reason_words, crate::specs::Words::place_of))]
 pub fn reason(n: u64) -> &'static [u8]
     ensures { result.now ≡ reason_words n }

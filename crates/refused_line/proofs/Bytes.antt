@@ -8,20 +8,9 @@ use Rattle.std.specs.Prelude.{Some, position}
 use Rattle.std.specs.List.{position_from}
 use Rattle.std.proofs.lemmas.Iterator.Adapters.{position_from-zero}
 use Rattle.meaning.specs.Bytes.{Text}
-use Rattle.print.specs.Unshown.{Unshown, stands, fault, unshown}
-use Rattle.percent.specs.declared.Measured.{Measured}
-use Rattle.percent.specs.declared.Measured.TheVariants.{Size, Fault}
-use Rattle.percent.specs.Decode.{measured}
-use Rattle.refused_line.specs.Byte.{past, counted, first_of, byte_after, unshown_byte}
+use Rattle.refused_line.specs.Byte.{past, counted, first_of}
 
 -- a number that counts from a place on
-pub past-none : (k n : ℕ) → n ≡ 0 → 0 ≡ past k n
-past-none k n e = rw e
-
-pub past-some : (k n : ℕ) → (n ≡ 0 → ⊥) → k + n ≡ past k n
-past-some k zero z = absurd (z refl)
-past-some k (suc n) z = refl
-
 past-start : (n : ℕ) → past 0 n ≡ n
 past-start zero = refl
 past-start (suc n) = omega arith
@@ -41,18 +30,3 @@ counted-from test (x ∷ s) i = go (test x) (counted-from test s (i + 1))
 
 pub counted-position : (test : ℕ → Bool) (s : Text) → counted (position test s) ≡ first_of test s
 counted-position test s = ap counted (position_from-zero test s) ∙ counted-from test s 0 ∙ past-start (first_of test s)
-
--- of a name as a listing shows it
-pub unshown-none : (u : Text) (m : Measured) (n : ℕ) → m ≡ measured (unshown u) → m ≡ Size n → 0 ≡ unshown_byte u (unshown u)
-unshown-none u m n e f = go (unshown u) e
-  where
-    go : (r : Unshown) → m ≡ measured r → 0 ≡ unshown_byte u r
-    go (stands t) g = refl
-    go (fault k) g = absurd (let z : ◌≡◌ {A = ℕ} 0 1 = cc in omega arith)
-
-pub unshown-fault : (u : Text) (m : Measured) (k : ℕ) → m ≡ measured (unshown u) → m ≡ Fault k → (r : ℕ) → r ≡ byte_after k u → r ≡ unshown_byte u (unshown u)
-unshown-fault u m k e f r h = go (unshown u) e
-  where
-    go : (w : Unshown) → m ≡ measured w → r ≡ unshown_byte u w
-    go (stands t) g = absurd (let z : ◌≡◌ {A = ℕ} 0 1 = cc in omega arith)
-    go (fault j) g = let q : k ≡ j = cc in h ∙ ap (λ (x : ℕ). byte_after x u) q

@@ -2,7 +2,7 @@
 use mathlib.Core.Path.{◌≡◌, sym}
 use mathlib.Core.Bool.{Bool, true, false, cond}
 use mathlib.Core.List.{[], ◌∷◌, ◌++◌}
-use Prim.Native.Nat.{ℕ, zero, suc, ◌+◌, ◌/◌, ◌%◌, ◌<◌, ◌≤◌}
+use Prim.Native.Nat.{ℕ, zero, suc, ◌+◌, ◌/◌, ◌%◌, ◌≤◌}
 use native.Mathlib.Omega.{arith}
 use Rattle.std.specs.Prelude.{Option, Some, None}
 use Rattle.std.proofs.Common.{add-one}
@@ -12,7 +12,6 @@ use Rattle.meaning.specs.Bytes.{Text, bytes, ◌and◌}
 use Rattle.meaning.specs.Deliveries.{digits, capital_digit}
 use Rattle.buffer.specs.Splice.{splice}
 use Rattle.buffer.proofs.Splices.{splice-none}
-use Rattle.buffer.proofs.Pairs.{pair-second}
 use Rattle.buffer.proofs.Threes.{three-first, three-second, three_third, three-put, three-end}
 use Rattle.print.proofs.Decimals.{digits-few}
 use Rattle.refusal_words.specs.Words.{reason_words}
@@ -49,10 +48,6 @@ words-few b = go (eqb b 9) (eqb b 13) (eqb b 32) (leb 33 b and leb b 126)
     go false false false true = omega arith
     go false false false false = omega arith
 
--- before a line feed
-pub feed-room : (t d : Text) (at : ℕ) → at + length (t ++ (10 ∷ [])) ≤ length d → (o : Text) (i : ℕ) → o ≡ splice d at t → i ≡ at + length t → i < length o
-feed-room t d at fits o i eo ei = omega (arith, pair-second d at t (10 ∷ []) fits o i eo ei)
-
 -- which byte it is about
 module _ (l d : Text) (at : ℕ) (o : Option ℕ) where
   pub told-none : o ≡ None → (d ≡ splice d at (byte_told l (counted o))) × (at ≡ at + length (byte_told l (counted o)))
@@ -69,17 +64,8 @@ module _ (l d : Text) (at : ℕ) (o : Option ℕ) where
       pieces : at + length (bytes ": byte " ++ (numeral (k + 1) ++ tail)) ≤ length d
       pieces = rw told-some at fits
 
-      pub told-first : at + length (bytes ": byte ") ≤ length d
-      told-first = three-first d at (bytes ": byte ") (numeral (k + 1)) tail pieces
-
       module _ (p : Text) (i : ℕ) (ep : p ≡ splice d at (bytes ": byte ")) (ei : i ≡ at + length (bytes ": byte ")) where
-        pub told-second : i + length (numeral (k + 1)) ≤ length p
-        told-second = three-second d at (bytes ": byte ") (numeral (k + 1)) tail pieces p i ep ei
-
         module _ (q : Text) (j : ℕ) (eq : q ≡ splice p i (numeral (k + 1))) (ej : j ≡ i + length (numeral (k + 1))) where
-          pub told-third : j + length tail ≤ length q
-          told-third = three_third d at (bytes ": byte ") (numeral (k + 1)) tail pieces p i ep ei q j eq ej
-
           pub told-put : (r : Text) → r ≡ splice q j tail → r ≡ splice d at (byte_told l (counted o))
           told-put r f = rw told-some (three-put d at (bytes ": byte ") (numeral (k + 1)) tail pieces p i ep ei q j eq ej r f)
 

@@ -18,11 +18,6 @@ use Rattle.parse.proofs.Places.{unsigned-drop, sign-within}
 use Rattle.refused_line.specs.Byte.{past, counted, refused_byte, source_byte, destination_byte, SidesAt}
 use Rattle.refused_line.proofs.Bytes.{counted-position}
 
--- the sign, by the first byte
-pub sign-none : (t : Text) → length t ≡ 0 → 0 ≡ sign_length (mode_of t)
-sign-none [] e = refl
-sign-none (x ∷ t) e = absurd (omega arith)
-
 pub sign-caret : (t : Text) → (length t ≡ 0 → ⊥) → get_or t 0 0 ≡ 94 → 1 ≡ sign_length (mode_of t)
 unfolding mode_of_byte
 sign-caret [] z e = absurd (z refl)

@@ -1,12 +1,11 @@
 // Which byte of a line a refusal is about, if about one.
 ghost use Rattle.std.specs.Prelude.{◌≡◌, ◌≤◌, ℕ, length, position, take_while, zip, nat_eq};
-ghost use Rattle.meaning.specs.Limits.{program_bytes};
 ghost use Rattle.meaning.specs.Spec.{mode_of};
 ghost use Rattle.parse.specs.Places.{sign_length};
 ghost use Rattle.print.specs.Unshown.{unshown};
-ghost use Rattle.refused_line.specs.Byte.{counted, first_of, byte_after, refused_byte, source_byte, destination_byte, spec_byte, unshown_byte, alike, known, line_byte, SidesAt};
+ghost use Rattle.refused_line.specs.Byte.{counted, byte_after, refused_byte, source_byte, destination_byte, spec_byte, unshown_byte, known, line_byte, SidesAt};
 
-use percent::{Measured, measure};
+use percent::measure;
 use text::last::past_last;
 use text_lists::line::{Line, classify};
 
@@ -62,14 +61,13 @@ fn split(t: &[u8]) -> Sides
     ensures { SidesAt t.now result.start result.end result.rest }
 {
     let start = sign_size(t);
-    let n = past_last(b':', &t[start..]);
-    if n == 0 {
+    let Some(n) = past_last(b':', &t[start..]) else {
         return Sides {
             start,
             end: t.len(),
             rest: t.len(),
         };
-    }
+    };
     Sides {
         start,
         end: start + n - 1,
@@ -112,8 +110,8 @@ fn unshown_byte(t: &[u8]) -> Option<usize>
     ensures { (counted result ≡ unshown_byte t.now (unshown t.now)) × (counted result ≤ length t.now) }
 {
     match measure(t) {
-        Measured::Size(_) => None,
-        Measured::Fault(k) => byte_after(k, t),
+        Ok(_) => None,
+        Err(fault) => byte_after(fault.at, t),
     }
 }
 

@@ -4,7 +4,7 @@
 ghost use Rattle.std.specs.Prelude.{◌≡◌, [], ◌∷◌, ◌++◌, ◌+◌, ◌≤◌, length};
 ghost use Rattle.meaning.specs.Limits.{program_bytes};
 ghost use Rattle.meaning.specs.Bytes.{bytes};
-ghost use Rattle.buffer.specs.Splice.{splice};
+ghost use Rattle.buffer.specs.Splice.{splice, RoomFor, Puts};
 ghost use Rattle.refusal_words.specs.Words.{reason_words};
 ghost use Rattle.refused_line.specs.Byte.{counted};
 ghost use Rattle.refused_line.specs.Message.{numeral, byte_words, byte_told, line_told, refused_line, message_most};
@@ -25,8 +25,8 @@ pub const MESSAGE_ROOM: usize = (5 + MOST_DIGITS + 2) + 60 + (7 + MOST_DIGITS + 
 
 // Writes a number, and answers the place after it.
 fn put_number(out: &mut [u8], at: usize, n: usize) -> usize
-    requires { at + length (numeral n) ≤ length out.old }
-    ensures { (out.new ≡ splice out.old at (numeral n)) × (result ≡ at + length (numeral n)) }
+    requires { RoomFor out.old at (numeral n) }
+    ensures { Puts out.old at (numeral n) out.new result }
 {
     put_digits(out, at, MOST_DIGITS, n)
 }
@@ -35,8 +35,8 @@ fn put_number(out: &mut [u8], at: usize, n: usize) -> usize
 // and two hexadecimal digits.
 #[tactic(auto, unfolding(crate::specs::Message::byte_words, crate::specs::Message::byte_itself, crate::specs::Message::hexadecimal))]
 fn put_byte_words(out: &mut [u8], at: usize, b: u8) -> usize
-    requires { at + length (byte_words b) ≤ length out.old }
-    ensures { (out.new ≡ splice out.old at (byte_words b)) × (result ≡ at + length (byte_words b)) }
+    requires { RoomFor out.old at (byte_words b) }
+    ensures { Puts out.old at (byte_words b) out.new result }
 {
     match b {
         b'\t' => put(out, at, b"a tab"),
@@ -53,8 +53,8 @@ fn put_byte_words(out: &mut [u8], at: usize, b: u8) -> usize
 
 // Writes what a byte is, and answers the place after it.
 fn put_is(out: &mut [u8], at: usize, b: u8) -> usize
-    requires { at + length (bytes " is " ++ byte_words b) ≤ length out.old }
-    ensures { (out.new ≡ splice out.old at (bytes " is " ++ byte_words b)) × (result ≡ at + length (bytes " is " ++ byte_words b)) }
+    requires { RoomFor out.old at (bytes " is " ++ byte_words b) }
+    ensures { Puts out.old at (bytes " is " ++ byte_words b) out.new result }
 {
     let i = put(out, at, b" is ");
     put_byte_words(out, i, b)
@@ -62,8 +62,8 @@ fn put_is(out: &mut [u8], at: usize, b: u8) -> usize
 
 // Writes which byte of a line it is about, if about one, and answers the place after it.
 fn put_told(out: &mut [u8], at: usize, line: &[u8], byte: Option<usize>) -> usize
-    requires { (at + length (byte_told line.now (counted byte)) ≤ length out.old) × (counted byte ≤ length line.now) }
-    ensures { (out.new ≡ splice out.old at (byte_told line.now (counted byte))) × (result ≡ at + length (byte_told line.now (counted byte))) }
+    requires { RoomFor out.old at (byte_told line.now (counted byte)) × (counted byte ≤ length line.now) }
+    ensures { Puts out.old at (byte_told line.now (counted byte)) out.new result }
 {
     match byte {
         None => at,
@@ -77,8 +77,8 @@ fn put_told(out: &mut [u8], at: usize, line: &[u8], byte: Option<usize>) -> usiz
 
 // Writes the same with a line feed, and answers the place after it.
 fn put_end(out: &mut [u8], at: usize, line: &[u8], byte: Option<usize>) -> usize
-    requires { (at + length (byte_told line.now (counted byte) ++ (10 ∷ [])) ≤ length out.old) × (counted byte ≤ length line.now) }
-    ensures { (out.new ≡ splice out.old at (byte_told line.now (counted byte) ++ (10 ∷ []))) × (result ≡ at + length (byte_told line.now (counted byte) ++ (10 ∷ []))) }
+    requires { RoomFor out.old at (byte_told line.now (counted byte) ++ (10 ∷ [])) × (counted byte ≤ length line.now) }
+    ensures { Puts out.old at (byte_told line.now (counted byte) ++ (10 ∷ [])) out.new result }
 {
     let i = put_told(out, at, line, byte);
     put_byte(out, i, b'\n')
@@ -86,16 +86,16 @@ fn put_end(out: &mut [u8], at: usize, line: &[u8], byte: Option<usize>) -> usize
 
 // Writes the words for a reason, and answers the place after them.
 fn put_reason(out: &mut [u8], at: usize, n: u64) -> usize
-    requires { at + length (reason_words n) ≤ length out.old }
-    ensures { (out.new ≡ splice out.old at (reason_words n)) × (result ≡ at + length (reason_words n)) }
+    requires { RoomFor out.old at (reason_words n) }
+    ensures { Puts out.old at (reason_words n) out.new result }
 {
     put(out, at, reason(n))
 }
 
 // Writes the number of a line, and answers the place after it.
 fn put_line(out: &mut [u8], at: usize, k: usize) -> usize
-    requires { at + length (line_told k) ≤ length out.old }
-    ensures { (out.new ≡ splice out.old at (line_told k)) × (result ≡ at + length (line_told k)) }
+    requires { RoomFor out.old at (line_told k) }
+    ensures { Puts out.old at (line_told k) out.new result }
 {
     let i = put(out, at, b"line ");
     let j = put_number(out, i, k);

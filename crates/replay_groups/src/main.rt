@@ -1,8 +1,9 @@
 // Replays the recorded answers of gix-refspec to groups, which standard input brings, and says how many of them are ours.
 #![tactic(auto)]
 
-use replaying::{Kind, replay};
+use replaying::{Groups, replay};
 
+// As it is: (d) each program has a main of its own.
 fn main(rt: HostRuntime) {
-    replay(&mut rt.stdin(), &mut rt.stdout(), Kind::Groups);
+    replay(&mut rt.stdin(), &mut rt.stdout(), &Groups);
 }

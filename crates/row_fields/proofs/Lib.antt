@@ -1,3 +1,2 @@
--- `Fields`: the places of a row's fields, read part by part. `Skips`: a destination past what stands before it.
+-- `Fields`: the places of a row that is read part by part denote the row that reading gives.
 pub mod Fields
-pub mod Skips

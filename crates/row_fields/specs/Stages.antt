@@ -1,11 +1,10 @@
--- A row read on after each of its parts, what a part leaves, and a destination as a text.
+-- A row read on after each of its parts, and its destination as a text.
 use Rattle.std.specs.Prelude.{ℕ, ◌+◌, ◌≤◌, ◌≡◌, [], length}
-use Rattle.std.proofs.Math.Option.{Option}
 use Rattle.meaning.specs.Bytes.{Text, or_empty}
 use Rattle.meaning.specs.Number.{Step, took, no, Reader, ◌>>=◌, give, read_number, read_text}
 use Rattle.meaning.specs.Rows.{Row, read_destination}
 use Rattle.parse.specs.Places.{part_at}
-use Rattle.row_fields.specs.declared.Stretch.{Stretch}
+use Rattle.list.specs.declared.stretch.Stretch.{Stretch}
 
 -- after its source
 unfoldable pub after_source : ℕ → ℕ → ℕ → Text → Reader Row
@@ -22,16 +21,6 @@ after_spec i sp = read_number >>= after_kind i sp
 -- after its item field
 unfoldable pub after_item : ℕ → Reader Row
 after_item i = read_number >>= after_spec i
-
--- what is left after a part; nothing where it was refused
-abbrev pub left_after : {A : Type 0} → Step A → Text
-left_after (took a rest) = rest
-left_after (no n) = []
-
--- a destination that was read; nothing where it was refused, or where there is none
-abbrev pub destination_or : Step (Option Text) → Text
-destination_or (took d rest) = or_empty d
-destination_or (no n) = []
 
 -- the destination of a row that was read; nothing where it was refused, or where there is none
 abbrev pub destination_in : Step Row → Text

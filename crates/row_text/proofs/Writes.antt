@@ -3,18 +3,17 @@ use Prim.Native.Nat.{ℕ, ◌+◌, ◌≤◌}
 use native.Mathlib.Omega.{arith}
 use native.Mathlib.Nat.{add-zero}
 use mathlib.Core.Path.{◌≡◌, refl, sym, ap, ◌∙◌}
-use mathlib.Core.List.{[], ◌++◌, append-nil}
+use mathlib.Core.Bool.{Bool, true, false, false≢true}
+use mathlib.Core.List.{[], ◌++◌}
 use mir.Val.{Fits}
 use mir.Syntax.{w64}
 use lib.ListN.{length, length-append}
 use lib.Seq.{take_all}
-use Rattle.meaning.specs.Bytes.{Text, bytes, or_empty, lower}
+use Rattle.meaning.specs.Bytes.{Text, or_empty, lower}
 use Rattle.meaning.specs.Limits.{spec_list_bytes, name_bytes}
 use Rattle.buffer.specs.Splice.{splice}
 use Rattle.buffer.proofs.Splices.{splice-none}
-use Rattle.buffer.proofs.Pairs.{pair-second}
-use Rattle.buffer.proofs.Lowers.{lower-length}
-use Rattle.buffer.proofs.Writing.{Writing, writing-starts, writing-room, writing_more, written-place, written-whole}
+use Rattle.buffer.proofs.Pairs.{pair-first, pair-second, pair_put, pair_end}
 use Rattle.parse.specs.declared.types.Side.{Side}
 use Rattle.parse.specs.Places.{part_at, Within}
 use Rattle.parse.proofs.Parts.{part_length}
@@ -25,40 +24,76 @@ use Rattle.matcher.specs.declared.types.Lead.TheVariants as lead
 use Rattle.matcher.specs.declared.types.Filled.{Filled}
 use Rattle.matcher.specs.declared.types.RowText.{RowText}
 use Rattle.matcher.specs.declared.types.RowText.TheVariants as row-text
-use Rattle.matcher.specs.Matching.{led_text, filled_text, row_text_meant, RowTextWithin, FilledWithin}
-use Rattle.row_text.specs.Leads.{lead_size, row_text_most}
+use Rattle.matcher.specs.Matching.{led_text, lead_bytes, lowers, body_bytes, filled_text, row_text_meant, RowTextWithin, FilledWithin}
+use Rattle.matcher.proofs.Leads.{led-pieces, body-length, lead-short}
+use Rattle.row_text.specs.Leads.{row_text_most}
 
 -- ---- how many bytes
 
--- a text that is led has what leads and its own bytes
-led-length : (l : Lead) (t : Text) → length (led_text l t) ≡ lead_size l + length t
-led-length lead.AsIs t = omega arith
-led-length lead.Refs t = omega arith
-led-length lead.Heads t = omega arith
-led-length lead.HeadsDigits t = omega (arith, lower-length t)
-led-length lead.Digits t = omega (arith, lower-length t)
+-- the bytes that are led, by whether they stand in lower case
+module _ (l : Lead) (t : Text) (r : Bool) (er : r ≡ lowers l) where
+  pub body-lower : r ≡ true → lower t ≡ body_bytes l t
+  body-lower e = go l (sym er ∙ e)
+    where
+      go : (l : Lead) → lowers l ≡ true → lower t ≡ body_bytes l t
+      go lead.AsIs h = absurd (false≢true h)
+      go lead.Refs h = absurd (false≢true h)
+      go lead.Heads h = absurd (false≢true h)
+      go lead.HeadsDigits h = refl
+      go lead.Digits h = refl
 
--- few bytes lead
-lead-short : (l : Lead) → lead_size l ≤ 11
-lead-short lead.AsIs = omega arith
-lead-short lead.Refs = omega arith
-lead-short lead.Heads = omega arith
-lead-short lead.HeadsDigits = omega arith
-lead-short lead.Digits = omega arith
+  pub body-plain : r ≡ false → t ≡ body_bytes l t
+  body-plain e = go l (sym er ∙ e)
+    where
+      go : (l : Lead) → lowers l ≡ false → t ≡ body_bytes l t
+      go lead.AsIs h = refl
+      go lead.Refs h = refl
+      go lead.Heads h = refl
+      go lead.HeadsDigits h = absurd (false≢true (sym h))
+      go lead.Digits h = absurd (false≢true (sym h))
 
-module _ (specs : Text) (l : Lead) (s : Side) (u : Text) (eu : u ≡ side_text specs s) (n : ℕ) (en : n ≡ lead_size l) where
-  -- a side that is led has so many
-  pub led-size : n + length u ≡ length (led_text l (side_text specs s))
-  led-size = rw (eu, en) (sym (led-length l (side_text specs s)))
+-- what leads and a side, as they are lent
+module _ (specs : Text) (l : Lead) (s : Side) (b u : Text) (eb : b ≡ lead_bytes l) (eu : u ≡ side_text specs s) where
+  -- a side that is led has as many bytes as both
+  led-length : length b + length u ≡ length (led_text l (side_text specs s))
+  led-length = rw (eb, eu, ← led-pieces l (side_text specs s)) (omega (arith, length-append (lead_bytes l) (body_bytes l (side_text specs s)), body-length l (side_text specs s)))
+
+  pub led-size : (name : Text) (m : RowText) → m ≡ row-text.Led l s → length b + length u ≡ length (or_empty (row_text_meant specs name m))
+  led-size name m is = rw is led-length
 
   module _ (w : Within (length specs) s) (few : length specs ≤ spec_list_bytes) where
     -- which are not many
-    pub led-most : n + length u ≤ row_text_most
-    led-most = omega (arith, ap length eu, lead-short l, side-short specs s w)
+    pub led-most : length b + length u ≤ row_text_most
+    led-most = omega (arith, ap length eb, ap length eu, lead-short l, side-short specs s w)
 
     -- so a machine's number holds them
-    pub led-fits : Fits w64 (n + length u)
-    led-fits = omega (arith, ap length eu, lead-short l, side-short specs s w)
+    pub led-fits : Fits w64 (length b + length u)
+    led-fits = omega (arith, ap length eb, ap length eu, lead-short l, side-short specs s w)
+
+  -- a side is written right after what leads it
+  module _ (d : Text) (at : ℕ) (fits : at + length (led_text l (side_text specs s)) ≤ length d) where
+    led-both : at + length (b ++ body_bytes l u) ≤ length d
+    led-both = rw (eb, eu, led-pieces l (side_text specs s)) fits
+
+    pub led-first : at + length b ≤ length d
+    led-first = pair-first d at b (body_bytes l u) led-both
+
+    module _ (o : Text) (i : ℕ) (eo : o ≡ splice d at b) (ei : i ≡ at + length b) where
+      pub led-second : i + length u ≤ length o
+      led-second = rw (← body-length l u) (pair-second d at b (body_bytes l u) led-both o i eo ei)
+
+      module _ (v : Text) (ev : v ≡ body_bytes l u) where
+        whole : b ++ v ≡ led_text l (side_text specs s)
+        whole = rw (ev, eb, eu) (led-pieces l (side_text specs s))
+
+        room : at + length (b ++ v) ≤ length d
+        room = rw ev led-both
+
+        pub led-put : (p : Text) → p ≡ splice o i v → p ≡ splice d at (led_text l (side_text specs s))
+        led-put p e = rw (← whole) (pair_put d at b v room o i eo ei p e)
+
+        pub led-end : (j : ℕ) → j ≡ i + length v → j ≡ at + length (led_text l (side_text specs s))
+        led-end j e = rw (← whole) (pair_end d at b v room o i eo ei j e)
 
 -- the arms of a `match` on what a match makes
 module _ (specs name : Text) (m : RowText) where
@@ -77,9 +112,6 @@ module _ (specs name : Text) (m : RowText) where
     pub made-led-within : (len name_len : ℕ) → RowTextWithin len name_len m → Within len s
     made-led-within len name_len h = rw is at h
 
-    pub made-led-size : (r : ℕ) → r ≡ length (led_text l (side_text specs s)) → r ≡ length (or_empty (row_text_meant specs name m))
-    made-led-size r h = rw is h
-
     pub made-led-text : led_text l (side_text specs s) ≡ or_empty (row_text_meant specs name m)
     made-led-text = rw is
 
@@ -95,26 +127,27 @@ module _ (specs name : Text) (m : RowText) where
       inside : FilledWithin (length specs) (length name) f
       inside = made-filled-within (length specs) (length name) w
 
-      pub start-few : length specs ≤ spec_list_bytes → f.start_len ≤ spec_list_bytes
-      start-few h = omega (arith, inside.start-within)
+      -- its parts are not many bytes
+      pub filled-most : length specs ≤ spec_list_bytes → length name ≤ name_bytes → f.start_len + f.len + f.end_len ≤ row_text_most
+      filled-most h k = omega (arith, inside.start-within, inside.capture-within, inside.end-within)
 
-      pub capture-few : length name ≤ name_bytes → f.len ≤ name_bytes
-      capture-few h = omega (arith, inside.capture-within)
+      pub two-fit : length specs ≤ spec_list_bytes → length name ≤ name_bytes → Fits w64 (f.start_len + f.len)
+      two-fit h k = omega (arith, inside.start-within, inside.capture-within)
 
-      pub end-few : length specs ≤ spec_list_bytes → f.end_len ≤ spec_list_bytes
-      end-few h = omega (arith, inside.end-within)
+      pub three-fit : length specs ≤ spec_list_bytes → length name ≤ name_bytes → Fits w64 (f.start_len + f.len + f.end_len)
+      three-fit h k = omega (arith, inside.start-within, inside.capture-within, inside.end-within)
 
       -- it has the bytes of its three parts
-      pub made-filled-size : (r : ℕ) → r ≡ f.start_len + (f.len + f.end_len) → r ≡ length (or_empty (row_text_meant specs name m))
-      made-filled-size r e =
+      pub made-filled-size : f.start_len + f.len + f.end_len ≡ length (or_empty (row_text_meant specs name m))
+      made-filled-size =
           let a = part_at specs f.start f.start_len in
           let b = part_at name f.from f.len in
           let c = part_at specs f.end f.end_len in
           let p = part_length specs f.start f.start_len inside.start-within in
           let q = part_length name f.from f.len inside.capture-within in
           let t = part_length specs f.end f.end_len inside.end-within in
-          let n : length (filled_text specs name f) ≡ f.start_len + (f.len + f.end_len) = omega (arith, length-append a (b ++ c), length-append b c) in
-          e ∙ sym n ∙ ap length made-filled-text
+          let n : f.start_len + f.len + f.end_len ≡ length (filled_text specs name f) = omega (arith, length-append a (b ++ c), length-append b c) in
+          n ∙ ap length made-filled-text
 
 -- ---- writing
 
@@ -142,69 +175,3 @@ no-part-put d at s from n e = rw e (sym (splice-none d at))
 
 pub no-part-end : (at : ℕ) (s : Text) (from n : ℕ) → n ≡ 0 → at ≡ at + length (part_at s from n)
 no-part-end at s from n e = rw e (sym (add-zero at))
-
--- the second of two texts in lower case has room
-pub lower-second : (d : Text) (at : ℕ) (a b : Text) → at + length (a ++ lower b) ≤ length d → (o : Text) (i : ℕ) → o ≡ splice d at a → i ≡ at + length a → i + length b ≤ length o
-lower-second d at a b h o i eo ei = rw (← lower-length b) (pair-second d at a (lower b) h o i eo ei)
-
--- a text in lower case has room where it has
-pub lower-room : (d : Text) (at : ℕ) (t v : Text) → at + length v ≤ length d → lower t ≡ v → at + length t ≤ length d
-lower-room d at t v h e = omega (arith, lower-length t, ap length e)
-
--- the arms of a `match` on how a text is led
-module _ (l : Lead) (t : Text) where
-  pub led-as-is : l ≡ lead.AsIs → t ≡ led_text l t
-  led-as-is is = rw is
-
-  pub led-refs : l ≡ lead.Refs → bytes "refs/" ++ t ≡ led_text l t
-  led-refs is = rw is
-
-  pub led-heads : l ≡ lead.Heads → bytes "refs/heads/" ++ t ≡ led_text l t
-  led-heads is = rw is
-
-  pub led-heads-digits : l ≡ lead.HeadsDigits → bytes "refs/heads/" ++ lower t ≡ led_text l t
-  led-heads-digits is = rw is
-
-  pub led-digits : l ≡ lead.Digits → lower t ≡ led_text l t
-  led-digits is = rw is
-
--- a call gave the text of the side
-pub led-side : (specs : Text) (l : Lead) (s : Side) (u : Text) → u ≡ side_text specs s → led_text l u ≡ led_text l (side_text specs s)
-led-side specs l s u e = ap (led_text l) e
-
--- three texts one after the other
-module _ (d : Text) (at : ℕ) (a b c : Text) (fits : at + length (a ++ (b ++ c)) ≤ length d) where
-  start : Writing d at (a ++ (b ++ c)) d at (a ++ (b ++ c))
-  start = writing-starts d at (a ++ (b ++ c)) fits
-
-  -- the first has room
-  pub first-room : at + length a ≤ length d
-  first-room = writing-room d at (a ++ (b ++ c)) d at (a ++ (b ++ c)) start a (b ++ c) refl
-
-  module _ (d₁ : Text) (i : ℕ) (p₁ : d₁ ≡ splice d at a) (e₁ : i ≡ at + length a) where
-    first-put : Writing d at (a ++ (b ++ c)) d₁ i (b ++ c)
-    first-put = writing_more d at (a ++ (b ++ c)) d at (a ++ (b ++ c)) start a (b ++ c) refl d₁ i p₁ e₁
-
-    -- the second has room after it
-    pub second-room : i + length b ≤ length d₁
-    second-room = writing-room d at (a ++ (b ++ c)) d₁ i (b ++ c) first-put b c refl
-
-    module _ (d₂ : Text) (j : ℕ) (p₂ : d₂ ≡ splice d₁ i b) (e₂ : j ≡ i + length b) where
-      second-put : Writing d at (a ++ (b ++ c)) d₂ j c
-      second-put = writing_more d at (a ++ (b ++ c)) d₁ i (b ++ c) first-put b c refl d₂ j p₂ e₂
-
-      -- the third after that
-      pub third-room : j + length c ≤ length d₂
-      third-room = writing-room d at (a ++ (b ++ c)) d₂ j c second-put c [] (sym (append-nil c))
-
-      module _ (d₃ : Text) (r : ℕ) (p₃ : d₃ ≡ splice d₂ j c) (e₃ : r ≡ j + length c) where
-        third-put : Writing d at (a ++ (b ++ c)) d₃ r []
-        third-put = writing_more d at (a ++ (b ++ c)) d₂ j c second-put c [] (sym (append-nil c)) d₃ r p₃ e₃
-
-        -- and all three are the text
-        pub three-put : d₃ ≡ splice d at (a ++ (b ++ c))
-        three-put = written-whole d at (a ++ (b ++ c)) d₃ r [] third-put refl
-
-        -- which ends there
-        pub three-end : r ≡ at + length (a ++ (b ++ c))
-        three-end = written-place d at (a ++ (b ++ c)) d₃ r [] third-put refl

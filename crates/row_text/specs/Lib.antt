@@ -1,2 +1,2 @@
--- `Leads`: how many bytes lead a literal text, and how many a text has at most.
+-- `Leads`: how many bytes a text has at most.
 pub mod Leads

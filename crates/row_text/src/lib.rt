@@ -1,48 +1,18 @@
 // The texts that a match makes: how many bytes they have, and writing them. Port of `to_bstr_replace` in the crate's match_group/util.rs.
 #![tactic(auto)]
 
-ghost use Rattle.std.specs.Prelude.{◌≡◌, ◌++◌, ◌+◌, ◌≤◌, length};
-ghost use Rattle.meaning.specs.Bytes.{or_empty, lower};
+ghost use Rattle.std.specs.Prelude.{◌≡◌, ◌+◌, ◌≤◌, length};
+ghost use Rattle.meaning.specs.Bytes.{or_empty};
 ghost use Rattle.meaning.specs.Limits.{spec_list_bytes, name_bytes};
-ghost use Rattle.buffer.specs.Splice.{splice};
+ghost use Rattle.buffer.specs.Splice.{splice, RoomFor, Puts};
 ghost use Rattle.parse.specs.Places.{part_at, Within};
 ghost use Rattle.refspec.specs.Instructions.{side_text};
 ghost use Rattle.matcher.specs.Matching.{led_text, filled_text, FilledWithin, row_text_meant, RowTextWithin};
-ghost use Rattle.row_text.specs.Leads.{lead_size, row_text_most};
+ghost use Rattle.row_text.specs.Leads.{row_text_most};
 
 use matcher::types::{Filled, Lead, RowText};
 use parse::types::Side;
 use refspec::side::text_of;
-
-// How many bytes lead.
-fn lead_size(lead: Lead) -> usize
-    ensures { result ≡ lead_size lead }
-{
-    match lead {
-        Lead::AsIs => 0,
-        Lead::Refs => 5,
-        Lead::Heads => 11,
-        Lead::HeadsDigits => 11,
-        Lead::Digits => 0,
-    }
-}
-
-// How many bytes a side has that is led.
-fn led_size(specs: &[u8], lead: Lead, side: Side) -> usize
-    requires { Within (length specs.now) side × (length specs.now ≤ spec_list_bytes) }
-    ensures { (result ≡ length (led_text lead (side_text specs.now side))) × (result ≤ row_text_most) }
-{
-    let t = text_of(specs, b"HEAD", side);
-    lead_size(lead) + t.len()
-}
-
-// How many bytes three parts have.
-fn parts_size(a: usize, b: usize, c: usize) -> usize
-    requires { (a ≤ spec_list_bytes) × (b ≤ name_bytes) × (c ≤ spec_list_bytes) }
-    ensures { (result ≡ a + (b + c)) × (result ≤ row_text_most) }
-{
-    a + b + c
-}
 
 // How many bytes a text has that a match makes; an absent one has none.
 pub fn row_text_size(specs: &[u8], name: &[u8], made: RowText) -> usize
@@ -52,67 +22,40 @@ pub fn row_text_size(specs: &[u8], name: &[u8], made: RowText) -> usize
     match made {
         RowText::Absent => 0,
         RowText::Name => name.len(),
-        RowText::Led(lead, side) => led_size(specs, lead, side),
-        RowText::Filled(f) => parts_size(f.start_len, f.len, f.end_len),
+        RowText::Led(lead, side) => lead.bytes().len() + text_of(specs, b"HEAD", side).len(),
+        RowText::Filled(f) => f.start_len + f.len + f.end_len,
     }
 }
 
 // Writes the n bytes of s that begin at `from`, and answers the place after them. Mostly the end of a pattern has none.
 fn put_part(out: &mut [u8], at: usize, s: &[u8], from: usize, n: usize) -> usize
-    requires { (from + n ≤ length s.now) × (at + length (part_at s.now from n) ≤ length out.old) }
-    ensures { (out.new ≡ splice out.old at (part_at s.now from n)) × (result ≡ at + length (part_at s.now from n)) }
+    requires { (from + n ≤ length s.now) × RoomFor out.old at (part_at s.now from n) }
+    ensures { Puts out.old at (part_at s.now from n) out.new result }
 {
     if n == 0 {
-        return at;
-    }
-    let end = from + n;
-    buffer::put(out, at, &s[from..end])
-}
-
-// Writes a and then b, and answers the place after them.
-fn put_both(out: &mut [u8], at: usize, a: &[u8], b: &[u8]) -> usize
-    requires { at + length (a.now ++ b.now) ≤ length out.old }
-    ensures { (out.new ≡ splice out.old at (a.now ++ b.now)) × (result ≡ at + length (a.now ++ b.now)) }
-{
-    let i = buffer::put(out, at, a);
-    buffer::put(out, i, b)
-}
-
-// Writes a and then b in lower case, and answers the place after them.
-fn put_both_lower(out: &mut [u8], at: usize, a: &[u8], b: &[u8]) -> usize
-    requires { at + length (a.now ++ lower b.now) ≤ length out.old }
-    ensures { (out.new ≡ splice out.old at (a.now ++ lower b.now)) × (result ≡ at + length (a.now ++ lower b.now)) }
-{
-    let i = buffer::put(out, at, a);
-    buffer::put_lower(out, i, b)
-}
-
-// Writes a text that is led, and answers the place after it.
-fn put_led_text(out: &mut [u8], at: usize, lead: Lead, t: &[u8]) -> usize
-    requires { at + length (led_text lead t.now) ≤ length out.old }
-    ensures { (out.new ≡ splice out.old at (led_text lead t.now)) × (result ≡ at + length (led_text lead t.now)) }
-{
-    match lead {
-        Lead::AsIs => buffer::put(out, at, t),
-        Lead::Refs => put_both(out, at, b"refs/", t),
-        Lead::Heads => put_both(out, at, b"refs/heads/", t),
-        Lead::HeadsDigits => put_both_lower(out, at, b"refs/heads/", t),
-        Lead::Digits => buffer::put_lower(out, at, t),
+        at
+    } else {
+        buffer::put(out, at, &s[from..from + n])
     }
 }
 
 // Writes a side that is led, and answers the place after it.
 fn put_led(out: &mut [u8], at: usize, specs: &[u8], lead: Lead, side: Side) -> usize
-    requires { Within (length specs.now) side × (at + length (led_text lead (side_text specs.now side)) ≤ length out.old) }
-    ensures { (out.new ≡ splice out.old at (led_text lead (side_text specs.now side))) × (result ≡ at + length (led_text lead (side_text specs.now side))) }
+    requires { Within (length specs.now) side × RoomFor out.old at (led_text lead (side_text specs.now side)) }
+    ensures { Puts out.old at (led_text lead (side_text specs.now side)) out.new result }
 {
     let t = text_of(specs, b"HEAD", side);
-    put_led_text(out, at, lead, t)
+    let i = buffer::put(out, at, lead.bytes());
+    if lead.lowers() {
+        buffer::put_lower(out, i, t)
+    } else {
+        buffer::put(out, i, t)
+    }
 }
 
 // Writes a part of the specs, a part of the name and a part of the specs, and answers the place after them.
 fn put_filled(out: &mut [u8], at: usize, specs: &[u8], name: &[u8], f: Filled) -> usize
-    requires { FilledWithin (length specs.now) (length name.now) f × (at + length (filled_text specs.now name.now f) ≤ length out.old) }
+    requires { FilledWithin (length specs.now) (length name.now) f × RoomFor out.old at (filled_text specs.now name.now f) }
     ensures { (out.new ≡ splice out.old at (filled_text specs.now name.now f))
         × (result ≡ at + length (filled_text specs.now name.now f)) }
 {
@@ -123,7 +66,7 @@ fn put_filled(out: &mut [u8], at: usize, specs: &[u8], name: &[u8], f: Filled) -
 
 // Writes the text that a match makes, and answers the place after it.
 pub fn put_row_text(out: &mut [u8], at: usize, specs: &[u8], name: &[u8], made: RowText) -> usize
-    requires { RowTextWithin (length specs.now) (length name.now) made × (at + length (or_empty (row_text_meant specs.now name.now made)) ≤ length out.old) }
+    requires { RowTextWithin (length specs.now) (length name.now) made × RoomFor out.old at (or_empty (row_text_meant specs.now name.now made)) }
     ensures { (out.new ≡ splice out.old at (or_empty (row_text_meant specs.now name.now made)))
         × (result ≡ at + length (or_empty (row_text_meant specs.now name.now made))) }
 {

@@ -70,16 +70,16 @@ module _ (specs : Text) (table : List ℕ) (group : ℕ) (t : TableReady specs t
 
 -- ---- a filter
 
-module _ (back : Bool) (specs : Text) (m : Matcher) (f : Filter) (r : MatcherReady specs m) where
-  pub stops-back : back ≡ true → f ≡ reverse_filter specs m → Stops back specs m f
-  stops-back e q =
+module _ (specs : Text) (m : Matcher) (f : Filter) (r : MatcherReady specs m) where
+  pub stops-back : f ≡ reverse_filter specs m → Stops true specs m f
+  stops-back q =
       let h = reverse-stops specs m r.matches.within in
-      rw (e, q) (record { stops = λ name l p. h.stops name l p (matcher_spec specs m) r.matches; within = h.within })
+      rw q (record { stops = λ name l p. h.stops name l p (matcher_spec specs m) r.matches; within = h.within })
 
-  pub stops-on : back ≡ false → f ≡ forward_filter specs m → Stops back specs m f
-  stops-on e q =
+  pub stops-on : f ≡ forward_filter specs m → Stops false specs m f
+  stops-on q =
       let h = forward-stops specs m r.matches.within in
-      rw (e, q) (record { stops = λ name l p. h.stops name l p (matcher_spec specs m) r.matches; within = h.within })
+      rw q (record { stops = λ name l p. h.stops name l p (matcher_spec specs m) r.matches; within = h.within })
 
 -- the next name that passes
 next-over : (f : Filter) (items : Text) (places : List ℕ) (n a b : ℕ) → b ≡ next_passing f items places n a → a ≤ n → First (λ k. passes f (name_at items places k)) a n b

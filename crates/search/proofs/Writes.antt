@@ -16,7 +16,8 @@ use Rattle.parse.proofs.Parts.{part_length}
 use Rattle.matcher.specs.declared.types.Matcher.{Matcher}
 use Rattle.matcher_table.specs.Numbers.{matcher_numbers, matcher_at}
 use Rattle.match_row.specs.Pairs.{matcher_spec, field_bytes}
-use Rattle.match_row.specs.Asking.{MatcherReady, Put}
+use Rattle.buffer.specs.Splice.{Puts}
+use Rattle.match_row.specs.Asking.{MatcherReady}
 use Rattle.search.specs.Hits.{hit_stride, field_start, field_size, under_spec, hit_bytes}
 use Rattle.search.specs.Noting.{PlacesIn, TableReady, Good, AllGood}
 
@@ -38,18 +39,18 @@ module _ (f : ℕ → Text) (hits : List ℕ) (first : Text) (at : ℕ) where
     hits-room : k < length hits → (x : ℕ) → x ≡ get_or hits k 0 → (t : Text) → t ≡ f x → end + length t ≤ length out
     hits-room h x e t q = rw (q, e) (writing-room first at (each hits f) out end (each (drop k hits) f) w (f (get_or hits k 0)) (each (drop (k + 1) hits) f) (next h))
 
-    hits_next : k < length hits → (x : ℕ) → x ≡ get_or hits k 0 → (t : Text) → t ≡ f x → (o : Text) (e : ℕ) → Put out end t o e → HitsWritten f hits first at (k + 1) o e
+    hits_next : k < length hits → (x : ℕ) → x ≡ get_or hits k 0 → (t : Text) → t ≡ f x → (o : Text) (e : ℕ) → Puts out end t o e → HitsWritten f hits first at (k + 1) o e
     hits_next h x e t et o end₂ q =
-        let p : Put out end (f (get_or hits k 0)) o end₂ = rw (et, e) at q in
-        writing_more first at (each hits f) out end (each (drop k hits) f) w (f (get_or hits k 0)) (each (drop (k + 1) hits) f) (next h) o end₂ p.puts p.ends
+        let p : Puts out end (f (get_or hits k 0)) o end₂ = rw (et, e) at q in
+        writing_more first at (each hits f) out end (each (drop k hits) f) w (f (get_or hits k 0)) (each (drop (k + 1) hits) f) (next h) o end₂ p.0 p.1
 
-    pub hits-end : length hits ≤ k → Put first at (each hits f) out end
+    pub hits-end : length hits ≤ k → Puts first at (each hits f) out end
     hits-end h =
         let e : each (drop k hits) f ≡ [] = ap (λ (l : List ℕ). each l f) (drop_all hits k h) in
-        record { puts = written-whole first at (each hits f) out end (each (drop k hits) f) w e; ends = written-place first at (each hits f) out end (each (drop k hits) f) w e }
+        (written-whole first at (each hits f) out end (each (drop k hits) f) w e, written-place first at (each hits f) out end (each (drop k hits) f) w e)
 
   -- no hit gives nothing
-  pub hits-none : length hits ≡ 0 → at + length (each hits f) ≤ length first → Put first at (each hits f) first at
+  pub hits-none : length hits ≡ 0 → at + length (each hits f) ≤ length first → Puts first at (each hits f) first at
   hits-none z h = hits-end 0 first at (hits-begin h) (omega arith)
 
 -- ---- one hit
@@ -71,7 +72,7 @@ field-short : (items : Text) (places : List ℕ) (n : ℕ) → PlacesIn items pl
 field-short items places n p zero h = omega arith
 field-short items places n p (suc j) h = p.short j (omega arith)
 
-module _ (back : Bool) (items : Text) (places : List ℕ) (n : ℕ) (p : PlacesIn items places n) (hit : ℕ) (there : hit % hit_stride ≤ n) where
+module _ (items : Text) (places : List ℕ) (n : ℕ) (p : PlacesIn items places n) (hit : ℕ) (there : hit % hit_stride ≤ n) where
   pub hit-field-few : hit % hit_stride ≤ item_count
   hit-field-few = omega (arith, p.few)
 
@@ -92,7 +93,7 @@ module _ (back : Bool) (items : Text) (places : List ℕ) (n : ℕ) (p : PlacesI
       pub hit-empty : hit % hit_stride ≡ 0 → length name ≡ 0
       hit-empty z = name-long ∙ ez ∙ rw z
 
-      module _ (s : Spec) where
+      module _ (back : Bool) (s : Spec) where
         same : field_bytes back (hit / hit_stride) (hit % hit_stride) name s ≡ under_spec back items places hit s
         same = rw (en, es, ez)
 
@@ -102,7 +103,7 @@ module _ (back : Bool) (items : Text) (places : List ℕ) (n : ℕ) (p : PlacesI
         pub hit-room : (d : Text) (at : ℕ) → at + length (under_spec back items places hit s) ≤ length d → at + length (field_bytes back (hit / hit_stride) (hit % hit_stride) name s) ≤ length d
         hit-room d at h = rw same h
 
-        pub hit-put : (d : Text) (at : ℕ) (o : Text) (e : ℕ) → Put d at (field_bytes back (hit / hit_stride) (hit % hit_stride) name s) o e → Put d at (under_spec back items places hit s) o e
+        pub hit-put : (d : Text) (at : ℕ) (o : Text) (e : ℕ) → Puts d at (field_bytes back (hit / hit_stride) (hit % hit_stride) name s) o e → Puts d at (under_spec back items places hit s) o e
         hit-put d at o e q = rw same at q
 
 -- ---- where there is a hit there is a spec
@@ -139,5 +140,5 @@ module _ (back : Bool) (specs : Text) (table : List ℕ) (group : ℕ) (t : Tabl
       pub turn-room : end + length (under_spec back items places hit (matcher_spec specs m)) ≤ length out
       turn-room = hits-room (hit_bytes back specs table items places) hits first at k out end w h hit e _ own
 
-      pub turn-next : (o : Text) (r : ℕ) → Put out end (under_spec back items places hit (matcher_spec specs m)) o r → HitsWritten (hit_bytes back specs table items places) hits first at (k + 1) o r
+      pub turn-next : (o : Text) (r : ℕ) → Puts out end (under_spec back items places hit (matcher_spec specs m)) o r → HitsWritten (hit_bytes back specs table items places) hits first at (k + 1) o r
       turn-next o r p = hits_next (hit_bytes back specs table items places) hits first at k out end w h hit e _ own o r p

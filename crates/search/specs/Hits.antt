@@ -1,5 +1,5 @@
 -- The pairs of a spec and a name that give a row, and what they give. A hit is a number: which spec it is of, and the item field of its row.
-use Rattle.std.specs.Prelude.{ℕ, zero, suc, ◌+◌, ◌*◌, ◌/◌, ◌%◌, Bool, cond, List, [], ◌∷◌, ◌++◌, eqb, length, get_or}
+use Rattle.std.specs.Prelude.{ℕ, zero, suc, ◌+◌, ◌*◌, ◌/◌, ◌%◌, Bool, true, false, cond, List, [], ◌∷◌, ◌++◌, eqb, length, get_or}
 use Rattle.meaning.specs.Bytes.{Text}
 use Rattle.meaning.specs.Limits.{item_count, spec_count}
 use Rattle.meaning.specs.Spec.{Spec}
@@ -72,6 +72,16 @@ group_hits back gone specs table group items places n = across (spec_hits back g
 -- those of these specs as object sources
 abbrev pub object_hits : Text → List ℕ → ℕ → List ℕ
 object_hits specs table group = across (λ i. hit_if (length (object_bytes i (spec_at specs table i))) (hit_of i 0)) 0 group
+
+-- what comes first in a listing of a table: forward, the objects' rows
+abbrev pub first_bytes : Bool → Text → List ℕ → ℕ → Text
+first_bytes true specs table group = []
+first_bytes false specs table group = objects_give specs table group
+
+-- and their hits
+abbrev pub first_hits : Bool → Text → List ℕ → ℕ → List ℕ
+first_hits true specs table group = []
+first_hits false specs table group = object_hits specs table group
 
 -- where the name of an item field begins, and how many bytes it has; no item has none
 abbrev pub field_start : List ℕ → ℕ → ℕ

@@ -10,9 +10,11 @@ ghost use Rattle.match_row.specs.Asking.{Askable, MatcherReady};
 ghost use Rattle.search.specs.Hits.{hit_of, hit_most, hit_if, names_give, spec_gives, group_gives, objects_give, names_hits, spec_hits, group_hits, object_hits};
 ghost use Rattle.search.specs.Noting.{spec_most, group_most, objects_most, hit_room, PlacesIn, TableReady, Stops, Adds};
 
+use super::listing::Listing;
 use super::scope::{Scope, Turn};
-use filter::{Filter, forward_filter, next_passing, reverse_filter};
+use filter::{Filter, next_passing};
 use limits::{ITEM_COUNT, SPEC_COUNT};
+use match_row::direction::Direction;
 use match_row::{item_size, object_size};
 use matcher::types::Matcher;
 use matcher_table::matcher_at;
@@ -41,22 +43,12 @@ pub(crate) fn part<'a>(items: &'a [u8], at: usize, n: usize) -> &'a [u8]
 }
 
 // A hit as it is noted.
+// As it is: (d) `u32::try_from(hit)` answers a result, of which no refusal can come here.
 fn narrow(hit: usize) -> u32
     requires { hit ≤ hit_most }
     ensures { result ≡ hit }
 {
     hit as u32
-}
-
-// The filter of a spec's rows, forward or in reverse.
-fn filter_of(back: bool, specs: &[u8], m: Matcher) -> Filter
-    requires { MatcherReady specs.now m }
-    ensures { Stops back specs.now m result }
-{
-    if back {
-        return reverse_filter(specs, m);
-    }
-    forward_filter(specs, m)
 }
 
 // Notes a hit that takes so many bytes, unless it takes none, and answers how many are noted.
@@ -75,7 +67,7 @@ fn note(hits: &mut [u32], count: usize, size: usize, hit: usize) -> usize
 }
 
 // Measures and notes what name j gives in the turn of a spec.
-fn name_found(
+fn name_found<D: Direction>(
     turn: Turn,
     specs: &[u8],
     m: Matcher,
@@ -85,18 +77,18 @@ fn name_found(
     hits: &mut [u32],
 ) -> Found
     requires { MatcherReady specs.now m × Askable specs.now negatives.now turn.scope.negatives × (turn.spec ≤ spec_count) × (j < item_count) × (length name.now ≤ name_bytes) × (length hits.old ≤ hit_room) }
-    ensures { (result.size ≡ length (item_bytes turn.scope.back (excluded_by specs.now negatives.now turn.scope.negatives) turn.spec j name.now (matcher_spec specs.now m))) × (result.size ≤ row_most)
-        × Adds hits.old turn.at (hit_if (length (item_bytes turn.scope.back (excluded_by specs.now negatives.now turn.scope.negatives) turn.spec j name.now (matcher_spec specs.now m))) (hit_of turn.spec (j + 1))) hits.new result.hits }
+    ensures { (result.size ≡ length (item_bytes D.back (excluded_by specs.now negatives.now turn.scope.negatives) turn.spec j name.now (matcher_spec specs.now m))) × (result.size ≤ row_most)
+        × Adds hits.old turn.at (hit_if (length (item_bytes D.back (excluded_by specs.now negatives.now turn.scope.negatives) turn.spec j name.now (matcher_spec specs.now m))) (hit_of turn.spec (j + 1))) hits.new result.hits }
 {
     let scope = turn.scope;
     let i = turn.spec;
-    let size = item_size(scope.back, specs, m, i, j, name, negatives, scope.negatives);
+    let size = item_size::<D>(specs, m, i, j, name, negatives, scope.negatives);
     let known = note(hits, turn.at, size, HIT_STRIDE * i + (j + 1));
     Found { size, hits: known }
 }
 
 // Measures and notes what the names that pass a filter give in the turn of a spec.
-fn names_found(
+fn names_found<D: Direction>(
     turn: Turn,
     specs: &[u8],
     m: Matcher,
@@ -106,9 +98,9 @@ fn names_found(
     negatives: &[u16],
     hits: &mut [u32],
 ) -> Found
-    requires { MatcherReady specs.now m × Stops turn.scope.back specs.now m f × (turn.spec ≤ spec_count) × PlacesIn items.now places.now turn.scope.names × Askable specs.now negatives.now turn.scope.negatives × (length hits.old ≤ hit_room) }
-    ensures { (result.size ≡ length (names_give turn.scope.back (excluded_by specs.now negatives.now turn.scope.negatives) (matcher_spec specs.now m) items.now places.now turn.scope.names turn.spec)) × (result.size ≤ spec_most)
-        × Adds hits.old turn.at (names_hits turn.scope.back (excluded_by specs.now negatives.now turn.scope.negatives) (matcher_spec specs.now m) items.now places.now turn.scope.names turn.spec) hits.new result.hits }
+    requires { MatcherReady specs.now m × Stops D.back specs.now m f × (turn.spec ≤ spec_count) × PlacesIn items.now places.now turn.scope.names × Askable specs.now negatives.now turn.scope.negatives × (length hits.old ≤ hit_room) }
+    ensures { (result.size ≡ length (names_give D.back (excluded_by specs.now negatives.now turn.scope.negatives) (matcher_spec specs.now m) items.now places.now turn.scope.names turn.spec)) × (result.size ≤ spec_most)
+        × Adds hits.old turn.at (names_hits D.back (excluded_by specs.now negatives.now turn.scope.negatives) (matcher_spec specs.now m) items.now places.now turn.scope.names turn.spec) hits.new result.hits }
 {
     let scope = turn.scope;
     let i = turn.spec;
@@ -116,6 +108,7 @@ fn names_found(
     let mut size = 0;
     let mut known = turn.at;
     let mut j = next_passing(f, items, places, n, 0);
+    // As it is: (d) the next name is the next that passes, which no range counts.
     while j < n {
         let at = wide(places[2 * j]);
         let len = wide(places[2 * j + 1]);
@@ -124,7 +117,7 @@ fn names_found(
             spec: i,
             at: known,
         };
-        let x = name_found(next, specs, m, j, part(items, at, len), negatives, hits);
+        let x = name_found::<D>(next, specs, m, j, part(items, at, len), negatives, hits);
         known = x.hits;
         size += x.size;
         j = next_passing(f, items, places, n, j + 1);
@@ -133,7 +126,7 @@ fn names_found(
 }
 
 // Measures and notes what one spec of a table gives in its turn.
-pub fn spec_found(
+pub fn spec_found<D: Listing>(
     turn: Turn,
     specs: &[u8],
     table: &[u16],
@@ -143,12 +136,12 @@ pub fn spec_found(
     hits: &mut [u32],
 ) -> Found
     requires { TableReady specs.now table.now turn.scope.specs × (turn.spec < turn.scope.specs) × PlacesIn items.now places.now turn.scope.names × Askable specs.now negatives.now turn.scope.negatives × (length hits.old ≤ hit_room) }
-    ensures { (result.size ≡ length (spec_gives turn.scope.back (excluded_by specs.now negatives.now turn.scope.negatives) specs.now table.now items.now places.now turn.scope.names turn.spec)) × (result.size ≤ spec_most)
-        × Adds hits.old turn.at (spec_hits turn.scope.back (excluded_by specs.now negatives.now turn.scope.negatives) specs.now table.now items.now places.now turn.scope.names turn.spec) hits.new result.hits }
+    ensures { (result.size ≡ length (spec_gives D.back (excluded_by specs.now negatives.now turn.scope.negatives) specs.now table.now items.now places.now turn.scope.names turn.spec)) × (result.size ≤ spec_most)
+        × Adds hits.old turn.at (spec_hits D.back (excluded_by specs.now negatives.now turn.scope.negatives) specs.now table.now items.now places.now turn.scope.names turn.spec) hits.new result.hits }
 {
     let scope = turn.scope;
     let m = matcher_at(table, turn.spec);
-    let f = filter_of(scope.back, specs, m);
+    let f = D::filter(specs, m);
     // No name passes, as none does for a negative spec.
     if f.most < f.least {
         return Found {
@@ -156,11 +149,11 @@ pub fn spec_found(
             hits: turn.at,
         };
     }
-    names_found(turn, specs, m, f, items, places, negatives, hits)
+    names_found::<D>(turn, specs, m, f, items, places, negatives, hits)
 }
 
 // Measures what all specs of a table give, and notes it after the first `noted` hits.
-pub fn specs_found(
+pub fn specs_found<D: Listing>(
     scope: Scope,
     specs: &[u8],
     table: &[u16],
@@ -171,23 +164,21 @@ pub fn specs_found(
     noted: usize,
 ) -> Found
     requires { TableReady specs.now table.now scope.specs × PlacesIn items.now places.now scope.names × Askable specs.now negatives.now scope.negatives × (length hits.old ≤ hit_room) }
-    ensures { (result.size ≡ length (group_gives scope.back (excluded_by specs.now negatives.now scope.negatives) specs.now table.now scope.specs items.now places.now scope.names)) × (result.size ≤ group_most)
-        × Adds hits.old noted (group_hits scope.back (excluded_by specs.now negatives.now scope.negatives) specs.now table.now scope.specs items.now places.now scope.names) hits.new result.hits }
+    ensures { (result.size ≡ length (group_gives D.back (excluded_by specs.now negatives.now scope.negatives) specs.now table.now scope.specs items.now places.now scope.names)) × (result.size ≤ group_most)
+        × Adds hits.old noted (group_hits D.back (excluded_by specs.now negatives.now scope.negatives) specs.now table.now scope.specs items.now places.now scope.names) hits.new result.hits }
 {
     let group = scope.specs;
     let mut size = 0;
     let mut known = noted;
-    let mut i = 0;
-    while i < group {
+    for i in 0..group {
         let turn = Turn {
             scope,
             spec: i,
             at: known,
         };
-        let x = spec_found(turn, specs, table, items, places, negatives, hits);
+        let x = spec_found::<D>(turn, specs, table, items, places, negatives, hits);
         known = x.hits;
         size += x.size;
-        i += 1;
     }
     Found { size, hits: known }
 }
@@ -200,13 +191,11 @@ pub fn objects_found(specs: &[u8], table: &[u16], group: usize, hits: &mut [u32]
 {
     let mut size = 0;
     let mut noted = 0;
-    let mut i = 0;
-    while i < group {
+    for i in 0..group {
         let m = matcher_at(table, i);
         let one = object_size(specs, m, i);
         noted = note(hits, noted, one, HIT_STRIDE * i);
         size += one;
-        i += 1;
     }
     Found { size, hits: noted }
 }

@@ -2,5 +2,6 @@
 #![tactic(auto)]
 
 pub mod found;
+pub mod listing;
 pub mod put;
 pub mod scope;

@@ -3,18 +3,21 @@ ghost use Rattle.std.specs.Prelude.{◌≡◌, ◌+◌, ◌*◌, ◌/◌, ◌%�
 ghost use Rattle.meaning.specs.Bytes.{each};
 ghost use Rattle.meaning.specs.Limits.{spec_count};
 ghost use Rattle.match_row.specs.Pairs.{matcher_spec};
-ghost use Rattle.match_row.specs.Asking.{MatcherReady, Put};
+ghost use Rattle.buffer.specs.Splice.{Puts};
+ghost use Rattle.match_row.specs.Asking.{MatcherReady};
 ghost use Rattle.search.specs.Hits.{hit_stride, field_start, field_size, under_spec, hit_bytes};
 ghost use Rattle.search.specs.Noting.{PlacesIn, TableReady, AllGood};
 
 use super::found::{HIT_STRIDE, part};
 use super::scope::Scope;
+use match_row::direction::Direction;
 use match_row::put_field;
 use matcher::types::Matcher;
 use matcher_table::matcher_at;
 use sides::wide;
 
 // A hit that was noted.
+// As it is: (d) a `usize` is made of a `u32` by no `From`.
 fn wider(hit: u32) -> usize
     ensures { result ≡ hit }
 {
@@ -46,7 +49,7 @@ fn size_of(places: &[u16], field: usize) -> usize
 }
 
 // Writes what a hit gives under the spec of a matcher, and answers the place after it.
-fn put_hit(
+fn put_hit<D: Direction>(
     out: &mut [u8],
     at: usize,
     scope: Scope,
@@ -56,17 +59,16 @@ fn put_hit(
     places: &[u16],
     hit: usize,
 ) -> usize
-    requires { MatcherReady specs.now m × PlacesIn items.now places.now scope.names × (hit / hit_stride ≤ spec_count) × (hit % hit_stride ≤ scope.names) × (0 < length (under_spec scope.back items.now places.now hit (matcher_spec specs.now m)))
-        × (at + length (under_spec scope.back items.now places.now hit (matcher_spec specs.now m)) ≤ length out.old) }
-    ensures { Put out.old at (under_spec scope.back items.now places.now hit (matcher_spec specs.now m)) out.new result }
+    requires { MatcherReady specs.now m × PlacesIn items.now places.now scope.names × (hit / hit_stride ≤ spec_count) × (hit % hit_stride ≤ scope.names) × (0 < length (under_spec D.back items.now places.now hit (matcher_spec specs.now m)))
+        × (at + length (under_spec D.back items.now places.now hit (matcher_spec specs.now m)) ≤ length out.old) }
+    ensures { Puts out.old at (under_spec D.back items.now places.now hit (matcher_spec specs.now m)) out.new result }
 {
     let field = hit % HIT_STRIDE;
     let start = start_of(places, field);
     let size = size_of(places, field);
-    put_field(
+    put_field::<D>(
         out,
         at,
-        scope.back,
         specs,
         m,
         hit / HIT_STRIDE,
@@ -76,7 +78,7 @@ fn put_hit(
 }
 
 // Writes what some hits give, and answers the place after it.
-pub fn put_hits(
+pub fn put_hits<D: Direction>(
     out: &mut [u8],
     at: usize,
     scope: Scope,
@@ -86,9 +88,9 @@ pub fn put_hits(
     places: &[u16],
     hits: &[u32],
 ) -> usize
-    requires { TableReady specs.now table.now scope.specs × PlacesIn items.now places.now scope.names × AllGood scope.back specs.now table.now scope.specs items.now places.now scope.names hits.now
-        × (at + length (each hits.now (hit_bytes scope.back specs.now table.now items.now places.now)) ≤ length out.old) }
-    ensures { Put out.old at (each hits.now (hit_bytes scope.back specs.now table.now items.now places.now)) out.new result }
+    requires { TableReady specs.now table.now scope.specs × PlacesIn items.now places.now scope.names × AllGood D.back specs.now table.now scope.specs items.now places.now scope.names hits.now
+        × (at + length (each hits.now (hit_bytes D.back specs.now table.now items.now places.now)) ≤ length out.old) }
+    ensures { Puts out.old at (each hits.now (hit_bytes D.back specs.now table.now items.now places.now)) out.new result }
 {
     if hits.len() == 0 {
         return at;
@@ -96,17 +98,15 @@ pub fn put_hits(
     let mut end = at;
     let mut last = 0;
     let mut m = matcher_at(table, 0);
-    let mut k = 0;
-    while k < hits.len() {
-        let hit = wider(hits[k]);
+    for noted in hits {
+        let hit = wider(*noted);
         let i = hit / HIT_STRIDE;
         // Hits of one spec stand together, so its matcher is read once.
         if i != last {
             m = matcher_at(table, i);
             last = i;
         }
-        end = put_hit(out, end, scope, specs, m, items, places, hit);
-        k += 1;
+        end = put_hit::<D>(out, end, scope, specs, m, items, places, hit);
     }
     end
 }

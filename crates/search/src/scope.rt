@@ -1,9 +1,8 @@
 // What a listing goes over, handed on by value.
 
-// A listing, forward or in reverse: how many specs of a table it goes over, how many names of an item list, and how many negatives.
+// How many specs of a table a listing goes over, how many names of an item list, and how many negatives.
 #[derive(Clone, Copy)]
 pub struct Scope {
-    pub back: bool,
     pub specs: usize,
     pub names: usize,
     pub negatives: usize,

@@ -6,8 +6,38 @@ ghost use Rattle.std.specs.Prelude.{◌≡◌, ◌≤◌};
 ghost use Rattle.meaning.specs.Limits.{spec_list_bytes};
 ghost use Rattle.parse.specs.Places.{Within};
 ghost use Rattle.sides.specs.Numbers.{side_from, side_kind, side_at, side_len};
+ghost use Rattle.sides.specs.Sides.{numbers_of, side_of};
 
 use parse::types::Side;
+
+// Which side it is, where it begins, and how many bytes it has.
+#[derive(Clone, Copy, Debug, PartialEq, Eq)]
+pub struct SideNumbers {
+    pub kind: u16,
+    pub at: u16,
+    pub len: u16,
+}
+
+impl SideNumbers {
+    // The numbers of a side, which tell it again.
+    pub fn of(side: Side) -> Self
+        requires { Within spec_list_bytes side }
+        ensures { (result ≡ numbers_of side) × (side_of result ≡ side) }
+    {
+        SideNumbers {
+            kind: side_kind(side),
+            at: side_at(side),
+            len: side_len(side),
+        }
+    }
+
+    // The side that they tell.
+    pub fn side(self) -> Side
+        ensures { result ≡ side_of self }
+    {
+        side_from(self.kind, wide(self.at), wide(self.len))
+    }
+}
 
 // A place in a spec list as a number of a table.
 pub fn narrow(n: usize) -> u16
@@ -21,7 +51,7 @@ pub fn narrow(n: usize) -> u16
 pub fn wide(n: u16) -> usize
     ensures { result ≡ n }
 {
-    n as usize
+    usize::from(n)
 }
 
 // Which side it is.
@@ -41,9 +71,8 @@ pub fn side_at(side: Side) -> u16
     ensures { result ≡ side_at side }
 {
     match side {
-        Side::Absent => 0,
         Side::Part(at, _) => narrow(at),
-        Side::Head => 0,
+        Side::Absent | Side::Head => 0,
     }
 }
 
@@ -53,9 +82,8 @@ pub fn side_len(side: Side) -> u16
     ensures { result ≡ side_len side }
 {
     match side {
-        Side::Absent => 0,
         Side::Part(_, len) => narrow(len),
-        Side::Head => 0,
+        Side::Absent | Side::Head => 0,
     }
 }
 

@@ -19,15 +19,19 @@ use Rattle.promises.proofs.Steps.{specs-shrink, list-records}
 use Rattle.parse.specs.declared.types.RefSpec.{RefSpec}
 use Rattle.parse.specs.Places.{SidesWithin, spec_meant}
 use Rattle.sides.proofs.Told.{side-wider}
-use Rattle.list.specs.declared.cursor.Cursor.{Cursor}
-use Rattle.spec_list.specs.declared.SpecStep.{SpecStep}
-use Rattle.spec_list.specs.declared.SpecStep.TheVariants as found
+use Rattle.std.specs.Prelude.{Option, None, Some, Result, Ok, Err}
+use Rattle.refusal.specs.declared.Refusal.{Refusal}
+use Rattle.refusal.specs.Numbers.{number_of}
+use Rattle.list.specs.declared.cursor.Record.{Record}
+use Rattle.list.specs.declared.refused.Refused.{Refused}
+use Rattle.refusal.specs.declared.Refusal.TheVariants as refusals
+use Rattle.list.specs.Checked.{carrying, numbered}
 use Rattle.spec_list.specs.declared.Group.{Group}
 use Rattle.spec_list.specs.declared.record.SpecRecord.{SpecRecord}
-use Rattle.spec_list.specs.Group.{record_meant, group_meant, AllWithin, refused_group, GroupRead, SpecTaken, SpecTurned, SpecSays}
+use Rattle.spec_list.specs.Group.{record_meant, group_meant, AllWithin, GroupRead, SpecTaken, SpecSays}
 use Rattle.spec_list.specs.Table.{spec_from_record, blank, blanks, record_at}
 use Rattle.list.proofs.Records.{records-past, records-no, records-took}
-use Rattle.list.proofs.Refusals.{specs-positive}
+use Rattle.spec_list.proofs.SpecReadings.{spec-some, spec-ended, spec-err}
 
 -- an answer on the specs that are left, where these stand before them
 abbrev read_after : List Spec → Answer (List Spec) → Answer (List Spec)
@@ -74,73 +78,69 @@ pub record Filling (op : ℕ) (s : Text) (t : List SpecRecord) (at j : ℕ) : Ty
 pub filling-starts : (op : ℕ) (s : Text) (t : List SpecRecord) (at : ℕ) → t ≡ blanks spec_count → at ≡ 0 → Filling op s t at 0
 filling-starts op s t at h e = record { others = h; size = ap length h ∙ blanks-long spec_count; count = omega arith; whole = rw e (after_none (records (spec_record op) 0 s)); sides = tt }
 
-module _ (op : ℕ) (s : Text) (t : List SpecRecord) (at j : ℕ) (f : Filling op s t at j) (w : SpecStep) (says : SpecSays op j s at w) where
-  module _ (r : RefSpec) (next : Cursor) (e : w ≡ found.Spec r next) where
-    told : SpecTaken op j s at r next.at
-    told = rw e at says
+module _ (op : ℕ) (s : Text) (t : List SpecRecord) (at j : ℕ) (f : Filling op s t at j) (w : Result (Option (Record RefSpec)) Refusal) (says : SpecSays op j s at w) (m : Result (Option (Record RefSpec)) Refused) (em : m ≡ numbered w j) where
+  module _ (o : Option (Record RefSpec)) (eo : m ≡ Ok o) (r : Record RefSpec) (e : o ≡ Some r) where
+    told : SpecTaken op j s at r.value r.next.at
+    told = spec-some op s at j w says m em o eo r e
 
     -- there is a place for it
     pub filling-room : j < spec_count
     filling-room = told.number
 
     -- less of the list is left
-    pub filling-less : length s - next.at < length s - at
+    pub filling-less : length s - r.next.at < length s - at
     filling-less = omega (arith, told.on, told.within)
 
     -- its sides are small enough for a record
-    pub filling-small : length s ≤ spec_list_bytes → SidesWithin spec_list_bytes r
-    filling-small h = record { src-within = side-wider (length s) spec_list_bytes r.src h told.sides.src-within; dst-within = side-wider (length s) spec_list_bytes r.dst h told.sides.dst-within }
+    pub filling-small : length s ≤ spec_list_bytes → SidesWithin spec_list_bytes r.value
+    filling-small h = record { src-within = side-wider (length s) spec_list_bytes r.value.src h told.sides.src-within; dst-within = side-wider (length s) spec_list_bytes r.value.dst h told.sides.dst-within }
 
     -- one more spec, as a record of it
-    pub filling-more : (y : SpecRecord) → spec_from_record y ≡ r → Filling op s (set t j y) next.at (j + 1)
+    pub filling-more : (y : SpecRecord) → spec_from_record y ≡ r.value → Filling op s (set t j y) r.next.at (j + 1)
     filling-more y e =
         let k : j < length t = omega (arith, f.size, told.number) in
         let p : take (j + 1) (set t j y) ≡ take j t ++ (y ∷ []) = rw (add-one j) (take-suc-set t j y k) in
-        let q : group_meant s (take j t ++ (y ∷ [])) ≡ group_meant s (take j t) ++ (spec_meant s r ∷ []) = rw (← e) (map-append (record_meant s) (take j t) (y ∷ [])) in
-        let c = records-took (spec_record op) (specs-shrink op) s at j (spec_meant s r) (drop next.at s) told.here told.reads in
+        let q : group_meant s (take j t ++ (y ∷ [])) ≡ group_meant s (take j t) ++ (spec_meant s r.value ∷ []) = rw (← e) (map-append (record_meant s) (take j t) (y ∷ [])) in
+        let c = records-took (spec_record op) (specs-shrink op) s at j (spec_meant s r.value) (drop r.next.at s) told.here told.reads in
         record {
           others = rw (add-one j) (drop-set-lt (suc j) t j y (omega arith) ∙ blanks-after j spec_count t told.number f.others);
           size = length-set t j y ∙ f.size;
           count = omega (arith, told.number);
           whole =
               rw (p, q, add-one j)
-              (sym (after_first (group_meant s (take j t)) (spec_meant s r) (records (spec_record op) (suc j) (drop next.at s)))
+              (sym (after_first (group_meant s (take j t)) (spec_meant s r.value) (records (spec_record op) (suc j) (drop r.next.at s)))
               ∙ rw c at f.whole);
           sides = rw p (within_more (length s) (take j t) y f.sides (rw e told.sides));
         }
 
   -- at the end all are read
-  pub filling-whole : w ≡ found.End → GroupRead s (record { refusal = 0; «record» = 0; count = j; specs = t }) (records (spec_record op) 0 s)
+  pub filling-whole : m ≡ Ok None → GroupRead s (Ok (record { count = j; specs = t })) (records (spec_record op) 0 s)
   filling-whole e =
-      let h : length s ≤ at = rw e at says in
+      let h : length s ≤ at = spec-ended op s at j w says m em e in
       let c : read_after (group_meant s (take j t)) (accepted []) ≡ records (spec_record op) 0 s = rw (records-past (spec_record op) (specs-shrink op) s at j h) at f.whole in
       let d : accepted (group_meant s (take j t)) ≡ records (spec_record op) 0 s = ap (λ (k : List Spec). accepted k) (sym (append-nil (group_meant s (take j t)))) ∙ c in
       let n : length (group_meant s (take j t)) ≡ j = length-map (take j t) (record_meant s) ∙ length-take-le j t (omega (arith, f.size, f.count)) in
-      rw (← d) (record { refusal_is = refl; record_is = refl; count-is = sym n; count-within = f.count; means = refl; within = f.sides; others = f.others })
+      rw (← d) (record { count-is = sym n; count-within = f.count; means = refl; within = f.sides; others = f.others })
 
   -- a spec is refused
-  pub filling-stop : (n : ℕ) → w ≡ found.Refused n → (g : Group) → g ≡ refused_group n j → GroupRead s g (records (spec_record op) 0 s)
-  filling-stop n e g q =
-      let u : SpecTurned op j s at n = rw e at says in
-      let c : refused n (some j) ≡ records (spec_record op) 0 s = rw (records-no (spec_record op) (specs-shrink op) s at j n u.here u.reads) at f.whole in
-      rw (← c) (record { is = q; some = specs-positive op j (drop at s) n u.reads })
-
--- a table without specs in a refusal
-pub group-refused : (n r : ℕ) (t : List SpecRecord) → t ≡ blanks spec_count → record { refusal = n; «record» = r; count = 0; specs = t } ≡ refused_group n r
-group-refused n r t e = rw e
+  pub filling-stop : (x : Refused) → m ≡ Err x → GroupRead s (Err x) (records (spec_record op) 0 s)
+  filling-stop x e =
+      let u = spec-err op s at j w says m em x e in
+      let c : refused (number_of x.refusal) (some j) ≡ records (spec_record op) 0 s = rw (records-no (spec_record op) (specs-shrink op) s at j (number_of x.refusal) u.0.here u.0.reads) at f.whole in
+      rw (← c) (record { number = refl; carried = u.1 })
 
 -- the answers of `read_specs`
-module _ (op : ℕ) (s : Text) (g : Group) where
-  pub group-no-operation : 1 < op → g ≡ refused_group 18 0 → GroupRead s g (read_specs op s)
+module _ (op : ℕ) (s : Text) where
+  pub group-no-operation : 1 < op → GroupRead s (Err (carrying refusals.UnknownOperation 0)) (read_specs op s)
   unfolding read_specs
-  group-no-operation h r = rw (lt-leb op 1 h) (record { is = r; some = omega arith })
+  group-no-operation h = rw (lt-leb op 1 h) (record { number = refl; carried = refl })
 
-  pub group-too-long : op ≤ 1 → spec_list_bytes < length s → g ≡ refused_group 12 0 → GroupRead s g (read_specs op s)
-  group-too-long h k r = rw (specs-long op s h k) (record { is = r; some = omega arith })
+  pub group-too-long : op ≤ 1 → spec_list_bytes < length s → GroupRead s (Err (carrying refusals.ListTooLong 0)) (read_specs op s)
+  group-too-long h k = rw (specs-long op s h k) (record { number = refl; carried = refl })
 
-  pub group-is : op ≤ 1 → length s ≤ spec_list_bytes → GroupRead s g (records (spec_record op) 0 s) → GroupRead s g (read_specs op s)
+  pub group-is : (g : Result Group Refused) → op ≤ 1 → length s ≤ spec_list_bytes → GroupRead s g (records (spec_record op) 0 s) → GroupRead s g (read_specs op s)
   unfolding read_specs
-  group-is h k r = rw (le-leb op 1 h, list-records spec_list_bytes (spec_record op) s k) r
+  group-is g h k r = rw (le-leb op 1 h, list-records spec_list_bytes (spec_record op) s k) r
 
 -- record i of a table that is lent, as `spec_of` hands it on
 

@@ -1,7 +1,6 @@
--- `Compact`: a record tells its spec. `TableParts`: a table in memory is its first records and the others. `Shifts`: places in a
+-- `TableParts`: a table in memory is its first records and the others. `Shifts`: places in a
 -- text that stands in a list. `SpecSteps`: a spec at a place of its list. `SpecReadings`: a spec list that is being read, in numbers.
 -- `Groups`: a spec list that is being read into a table. `Told`: what the numbers of a group tell.
-pub mod Compact
 pub mod TableParts
 pub mod Shifts
 pub mod SpecSteps

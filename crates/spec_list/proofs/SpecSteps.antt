@@ -1,29 +1,26 @@
 -- A spec at a place of its list: its questions in order, and what is told of it. Assumes nothing.
 use mathlib.Core.Path.{◌≡◌, sym, ap, ◌∙◌}
 use mathlib.Core.Option.{none}
-use Prim.Native.Nat.{ℕ, ◌+◌, ◌-◌, ◌<◌, ◌≤◌}
+use Prim.Native.Nat.{ℕ, ◌+◌, ◌<◌, ◌≤◌}
 use native.Mathlib.Omega.{arith}
 use borrow.Author.Tests.{lt-ltb, le-ltb}
-use lib.ListN.{length, take, drop}
+use lib.ListN.{length, drop}
 use Rattle.meaning.specs.Bytes.{Text}
 use Rattle.meaning.specs.Limits.{spec_count}
 use Rattle.meaning.specs.Spec.{accepted, refused, Spec, read_spec}
 use Rattle.meaning.specs.Number as meaning
 use Rattle.meaning.specs.Lists.{spec_record}
 use Rattle.parse.specs.declared.types.RefSpec.{RefSpec}
-use Rattle.std.specs.Prelude.{Result, Ok, Err}
+use Rattle.parse.specs.Places.{part_at, SidesWithin, spec_meant, parsed}
+use Rattle.parse.proofs.Parts.{part_length}
+use Rattle.parse.proofs.Answers.{read-refused, read-accepted, read-within}
+use Rattle.std.specs.Prelude.{Option, None, Some, Result, Ok, Err}
 use Rattle.refusal.specs.declared.Refusal.{Refusal}
 use Rattle.refusal.specs.Numbers.{number_of}
-use Rattle.parse.specs.Places.{part_at, SidesWithin, spec_meant, parsed}
-use Rattle.parse.proofs.Parts.{part_length, part_of}
-use Rattle.parse.proofs.Answers.{read-refused, read-accepted, read-within}
-use Rattle.list.specs.declared.cursor.Cursor.{Cursor}
-use Rattle.list.specs.declared.cursor.Step.{Step}
-use Rattle.list.specs.declared.cursor.Step.TheVariants.{Record, End, Refused}
-use Rattle.spec_list.specs.declared.SpecStep.{SpecStep}
-use Rattle.spec_list.specs.declared.SpecStep.TheVariants as found
+use Rattle.list.specs.declared.cursor.Record.{Record}
+use Rattle.list.specs.declared.stretch.Stretch.{Stretch}
 use Rattle.list.specs.Cursor.{step_at}
-use Rattle.spec_list.specs.Group.{shifted, SpecIn, SpecTurned, SpecSays}
+use Rattle.spec_list.specs.Group.{shifted, SpecIn, SpecTaken, SpecTurned}
 use Rattle.list.proofs.Steps.{Taken, step-taken, step_end, step-refused}
 use Rattle.spec_list.proofs.Shifts.{spec-shifted, sides-shifted}
 
@@ -50,12 +47,12 @@ module _ (op j : ℕ) (s : Text) (h : j < spec_count) where
     spec-read x f = rw (lt-ltb j spec_count h, e, f)
 
 -- the answers of `spec_in`
-module _ (op : ℕ) (s : Text) (start len : ℕ) (inside : start + len ≤ length s) (p : Result RefSpec Refusal) (ep : p ≡ parsed op (take (start + len - start) (drop start s))) where
+module _ (op : ℕ) (s : Text) (start len : ℕ) (inside : start + len ≤ length s) (p : Result RefSpec Refusal) (t : Text) (et : t ≡ part_at s start len) (ep : p ≡ parsed op t) where
   same-part : p ≡ parsed op (part_at s start len)
-  same-part = ep ∙ ap (parsed op) (part_of s start len)
+  same-part = ep ∙ ap (parsed op) et
 
-  pub spec-turned : (q : Refusal) (n : ℕ) → p ≡ Err q → n ≡ number_of q → read_spec op (part_at s start len) ≡ refused n none
-  spec-turned q n e en = rw en (read-refused op (part_at s start len) p same-part q e)
+  pub spec-turned : (q : Refusal) → p ≡ Err q → read_spec op (part_at s start len) ≡ refused (number_of q) none
+  spec-turned q e = read-refused op (part_at s start len) p same-part q e
 
   module _ (r : RefSpec) (e : p ≡ Ok r) where
     pub spec-sides : SidesWithin len r
@@ -73,35 +70,38 @@ module _ (op j : ℕ) (s : Text) (at : ℕ) where
   pub spec-full : at < length s → spec_count ≤ j → SpecTurned op j s at 14
   spec-full h k = record { here = h; reads = spec-beyond op j (drop at s) k }
 
-  module _ (w : Step) (ew : w ≡ step_at s at) where
-    pub spec-none : w ≡ End → length s ≤ at
+  module _ (w : Result (Option (Record Stretch)) Refusal) (ew : w ≡ step_at s at) where
+    pub spec-none : w ≡ Ok None → length s ≤ at
     spec-none e = step_end s at (sym ew ∙ e)
 
-    pub spec-stop : (n : ℕ) → j < spec_count → w ≡ Refused n → SpecTurned op j s at n
-    spec-stop n h e =
-        let t = step-refused s at n (sym ew ∙ e) in
-        record { here = t.here; reads = rw t.is (spec-malformed op j (drop at s) h t.reads) }
+    pub spec-stop : (x : Refusal) → j < spec_count → w ≡ Err x → SpecTurned op j s at (number_of x)
+    spec-stop x h e =
+        let t = step-refused s at x (sym ew ∙ e) in
+        rw t.is (record { here = t.here; reads = spec-malformed op j (drop at s) h t.reads })
 
-    module _ (start len : ℕ) (next : Cursor) (e : w ≡ Record start len next) where
-      stood : Taken s at start len next.at
-      stood = step-taken s at start len next (sym ew ∙ e)
+    module _ (o : Option (Record Stretch)) (eo : w ≡ Ok o) (r : Record Stretch) (e : o ≡ Some r) where
+      stood : Taken s at r.value.at r.value.len r.next.at
+      stood = step-taken s at r (sym ew ∙ eo ∙ ap (λ (x : Option (Record Stretch)). Ok x) e)
 
-      pub spec-inside : start + len ≤ length s
+      pub spec-inside : r.value.at + r.value.len ≤ length s
       spec-inside = omega (arith, stood.ends, stood.within)
 
-      told : j < spec_count → (r : SpecStep) → SpecIn op s start len next r → SpecSays op j s at r
-      told h (found.Spec q after) i =
-          let t = stood in
-          record {
-            here = t.here;
-            reads = rw i.0 (spec-read op j (drop at s) h (part_at s start len) (drop next.at s) t.reads (spec_meant s q) i.1);
-            sides = i.2;
-            number = h;
-            on = rw i.0 t.on;
-            within = rw i.0 t.within;
-          }
-      told h found.End i = absurd i
-      told h (found.Refused n) i = let t = stood in record { here = t.here; reads = spec-refused op j (drop at s) h (part_at s start len) (drop next.at s) t.reads n i }
+      module _ (h : j < spec_count) (v : Result RefSpec Refusal) (i : SpecIn op s r.value.at r.value.len v) where
+        pub spec-there : (q : RefSpec) → v ≡ Ok q → SpecTaken op j s at q r.next.at
+        spec-there q ev =
+            let t = stood in
+            let k : SpecIn op s r.value.at r.value.len (Ok q) = rw ev at i in
+            record {
+              here = t.here;
+              reads = spec-read op j (drop at s) h (part_at s r.value.at r.value.len) (drop r.next.at s) t.reads (spec_meant s q) k.0;
+              sides = k.1;
+              number = h;
+              on = t.on;
+              within = t.within;
+            }
 
-      pub spec-there : (r : SpecStep) → j < spec_count → SpecIn op s start len next r → SpecSays op j s at r
-      spec-there r h i = told h r i
+        pub spec-own : (x : Refusal) → v ≡ Err x → SpecTurned op j s at (number_of x)
+        spec-own x ev =
+            let t = stood in
+            let k : SpecIn op s r.value.at r.value.len (Err x) = rw ev at i in
+            record { here = t.here; reads = spec-refused op j (drop at s) h (part_at s r.value.at r.value.len) (drop r.next.at s) t.reads (number_of x) k }

@@ -1,3 +1,2 @@
--- `Sides`: the text of a side. `Meets`: the answer of a call that writes what a spec means.
-pub mod Sides
+-- `Meets`: the answer of a call that writes what a spec means.
 pub mod Meets

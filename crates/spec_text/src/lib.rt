@@ -3,8 +3,8 @@
 
 ghost use Rattle.std.specs.Prelude.{◌≡◌, ◌+◌, ◌≤◌, length};
 ghost use Rattle.meaning.specs.Limits.{spec_bytes};
-ghost use Rattle.buffer.specs.Splice.{splice};
-ghost use Rattle.parse.specs.Places.{part_at, Within};
+ghost use Rattle.buffer.specs.Splice.{RoomFor, Puts};
+ghost use Rattle.parse.specs.Places.{Within};
 ghost use Rattle.refspec.specs.Instructions.{side_text};
 
 use parse::types::Side;
@@ -21,23 +21,14 @@ pub fn side_size(spec: &[u8], side: Side) -> usize
     }
 }
 
-// Writes the n bytes of the spec that begin at `from`, and answers the place after them.
-fn put_part(out: &mut [u8], at: usize, spec: &[u8], from: usize, n: usize) -> usize
-    requires { (from + n ≤ length spec.now) × (at + length (part_at spec.now from n) ≤ length out.old) }
-    ensures { (out.new ≡ splice out.old at (part_at spec.now from n)) × (result ≡ at + length (part_at spec.now from n)) }
-{
-    let end = from + n;
-    buffer::put(out, at, &spec[from..end])
-}
-
 // Writes the text of a side, and answers the place after it.
 pub fn put_side(out: &mut [u8], at: usize, spec: &[u8], side: Side) -> usize
-    requires { Within (length spec.now) side × (at + length (side_text spec.now side) ≤ length out.old) }
-    ensures { (out.new ≡ splice out.old at (side_text spec.now side)) × (result ≡ at + length (side_text spec.now side)) }
+    requires { Within (length spec.now) side × RoomFor out.old at (side_text spec.now side) }
+    ensures { Puts out.old at (side_text spec.now side) out.new result }
 {
     match side {
         Side::Absent => at,
-        Side::Part(from, n) => put_part(out, at, spec, from, n),
+        Side::Part(from, n) => buffer::put(out, at, &spec[from..from + n]),
         Side::Head => buffer::put(out, at, b"HEAD"),
     }
 }

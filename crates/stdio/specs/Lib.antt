@@ -1,2 +1,2 @@
--- `Streams`: what reading answers.
+-- `Streams`: what writing does.
 pub mod Streams

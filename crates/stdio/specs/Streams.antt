@@ -1,14 +1,7 @@
--- What reading answers.
-use Rattle.std.specs.Prelude.{ℕ, ◌≤◌}
-use Rattle.stdio.specs.declared.Input.{Input}
-use Rattle.stdio.specs.declared.Input.TheVariants.{Read, Failed}
+-- What writing does to an output.
+use Rattle.std.specs.Prelude.{ℕ, List, Option, Result, OnOk}
+use Rattle.std.specs.Io.KnownBytes.{Appends}
 
--- what holds of the count of bytes that were read
-abbrev pub IfRead : Input → (ℕ → Type 0) → Type 0
-IfRead (Read n) P = P n
-IfRead Failed P = Unit {0}
-
--- no more bytes are read than the buffer has
-abbrev pub ReadWithin : ℕ → Input → Type 0
-ReadWithin len (Read n) = n ≤ len
-ReadWithin len Failed = Unit {0}
+-- where all was written, the output grew by t
+abbrev pub Says : {A E : Type 0} → Result A E → Option (List ℕ) → Option (List ℕ) → List ℕ → Type 0
+Says result before after t = OnOk result (Appends before after t)

@@ -1,69 +1,58 @@
--- The last place of a byte, looked for from the end: the text up to a place decides as the whole does. Assumes nothing.
-use mathlib.Core.Path.{◌≡◌, sym, ap, ◌∙◌}
-use mathlib.Core.List.{[], ◌∷◌, ◌++◌}
-use Prim.Native.Nat.{ℕ, suc, ◌-◌, ◌≤◌, ◌<◌}
-use native.Mathlib.Omega.{arith}
-use borrow.Author.Tests.{eq-eqb, ne_eqb}
-use lib.ListN.{length, get_or, take}
-use lib.Seq.{take-suc, take-length, length-take-le}
-use Rattle.meaning.specs.Bytes.{Text}
-use Rattle.text.specs.Last.{past_last}
+-- The last place of a byte: a text whose last bytes have none is looked through as without them, and a place after which none stands is
+-- the last. Assumes nothing.
+use Rattle.std.proofs.Common.{◌≡◌, refl, sym, ap, ◌∙◌, Bool, true, false, [], ◌∷◌, ◌++◌, ℕ, zero, suc, ◌+◌, ◌<◌, ◌==◌, arith, eqb, length, slice_index, get_or, take, drop, take-append-drop, true≢false, ◌||◌, ◌≤◌}
+use Rattle.meaning.specs.Bytes.{Text, ◌or◌, has_byte}
+use Rattle.text.specs.Last.{past_last, past_next, NoneFrom}
+use Rattle.text.proofs.Rests.{rest-cons, rest_end}
 
--- a text with b at its end is passed whole
-last-is : (b : ℕ) (s : Text) (x : ℕ) → x ≡ b → past_last b (s ++ (x ∷ [])) ≡ suc (length s)
-last-is b [] x e = rw (eq-eqb b x (sym e))
-last-is b (y ∷ s) x e = rw (last-is b s x e)
+-- a text with none has no last
+pub last_none : (b : ℕ) (s : Text) → NoneFrom b s 0 → past_last b s ≡ 0
+last_none b [] h = refl
+last_none b (x ∷ s) h =
+    let e : eqb b x ≡ false = h 0 (omega arith) (omega arith) in
+    rw (last_none b s (λ k l m. h (suc k) (omega arith) (omega arith)), e)
 
--- a text with another byte at its end is passed as without it
-last-other : (b : ℕ) (s : Text) (x : ℕ) → (x ≡ b → ⊥) → past_last b (s ++ (x ∷ [])) ≡ past_last b s
-last-other b [] x n = rw (ne_eqb b x (λ e. n (sym e)))
-last-other b (y ∷ s) x n = rw (last-other b s x n)
+-- a b after which none stands is the last
+pub last-at : (b : ℕ) (s : Text) (i : ℕ) → i < length s → (b == slice_index s i) ≡ true → NoneFrom b s (i + 1) → i + 1 ≡ past_last b s
+last-at b [] i h e n = absurd (omega arith)
+last-at b (x ∷ s) zero h e n = rw (last_none b s (λ k l m. n (suc k) (omega arith) (omega arith)), e)
+last-at b (x ∷ s) (suc i) h e n =
+    let r : i + 1 ≡ past_last b s = last-at b s i (omega arith) e (λ k l m. n (suc k) (omega arith) (omega arith)) in
+    let q : past_last b s ≡ suc i = omega arith in
+    rw q (omega arith)
 
--- the text up to i, seen from its last byte
-take_last : (s : Text) (i : ℕ) → 0 < i → i ≤ length s → take i s ≡ take (i - 1) s ++ (get_or s (i - 1) 0 ∷ [])
-take_last s i h l = let e : i ≡ suc (i - 1) = omega arith in ap (λ (n : ℕ). take n s) e ∙ take-suc s (i - 1) 0 (omega arith)
+-- bytes of which none is b, at the end, change nothing
+none_in : (b : ℕ) (v : Text) → has_byte b v ≡ false → past_last b v ≡ 0
+none_in b [] e = refl
+none_in b (x ∷ v) e = go (eqb b x) refl e (none_in b v)
+  where
+    go : (t : Bool) → eqb b x ≡ t → (t or has_byte b v) ≡ false → (has_byte b v ≡ false → past_last b v ≡ 0) → past_next (eqb b x) (past_last b v) ≡ 0
+    go true q f r = absurd (true≢false f)
+    go false q f r = rw (r f, q)
 
-module _ (s : Text) (b i : ℕ) (inv : past_last b (take i s) ≡ past_last b s) where
-  last-here : i ≤ length s → 0 < i → get_or s (i - 1) 0 ≡ b → i ≡ past_last b s
-  last-here l h e =
-      let g : past_last b s ≡ suc (length (take (i - 1) s)) = sym inv ∙ ap (past_last b) (take_last s i h l) ∙ last-is b (take (i - 1) s) (get_or s (i - 1) 0) e in
-      omega (arith, length-take-le (i - 1) s (omega arith))
+none_after : (b : ℕ) (u v : Text) → has_byte b v ≡ false → past_last b (u ++ v) ≡ past_last b u
+none_after b [] v e = none_in b v e
+none_after b (x ∷ u) v e = rw (none_after b u v e)
 
-  last-before : i ≤ length s → 0 < i → (get_or s (i - 1) 0 ≡ b → ⊥) → past_last b (take (i - 1) s) ≡ past_last b s
-  last-before l h n = sym (last-other b (take (i - 1) s) (get_or s (i - 1) 0) n) ∙ rw (take_last s i h l) at inv
+pub last-before : (b : ℕ) (s front block : Text) (n : ℕ) → front ≡ take n s → block ≡ drop n s → has_byte b block ≡ false → past_last b front ≡ past_last b s
+last-before b s front block n d e h = rw d (sym (none_after b (take n s) (drop n s) (rw e at h)) ∙ ap (past_last b) (take-append-drop n s))
 
-  pub last_none : i ≡ 0 → 0 ≡ past_last b s
-  last_none e = rw e at inv
+-- one byte more was asked: what was found and what is left make the whole
+module _ (b : ℕ) (s : Text) (i : ℕ) (found : Bool) (inv : (found || has_byte b (drop i s)) ≡ has_byte b s) where
+  pub among-more : (here : Bool) → i < length s → here ≡ eqb b (get_or s i 0) → ((found || here) || has_byte b (drop (i + 1) s)) ≡ has_byte b s
+  among-more here h e = go found (rw (rest-cons s i h, ← e) at inv)
+    where
+      go : (f : Bool) → (f || (here or has_byte b (drop (i + 1) s))) ≡ has_byte b s → ((f || here) || has_byte b (drop (i + 1) s)) ≡ has_byte b s
+      go true q = q
+      go false q = either here q
+        where
+          either : (t : Bool) → (t or has_byte b (drop (i + 1) s)) ≡ has_byte b s → (t || has_byte b (drop (i + 1) s)) ≡ has_byte b s
+          either true r = r
+          either false r = r
 
--- the last two bytes, one after the other
-module _ (s : Text) (b i : ℕ) (inv : past_last b (take i s) ≡ past_last b s) (l : i ≤ length s) (h : 1 < i) where
-  pub last-of-two : get_or s (i - 1) 0 ≡ b → i ≡ past_last b s
-  last-of-two e = last-here s b i inv l (omega arith) e
-
-  module _ (n : get_or s (i - 1) 0 ≡ b → ⊥) where
-    one_less : past_last b (take (i - 1) s) ≡ past_last b s
-    one_less = last-before s b i inv l (omega arith) n
-
-    two-less : i - 1 - 1 ≡ i - 2
-    two-less = omega arith
-
-    pub last-second : get_or s (i - 2) 0 ≡ b → i - 1 ≡ past_last b s
-    last-second e = last-here s b (i - 1) one_less (omega arith) (omega arith) (rw two-less e)
-
-    pub last-before-two : (get_or s (i - 2) 0 ≡ b → ⊥) → past_last b (take (i - 2) s) ≡ past_last b s
-    last-before-two m = rw two-less at (last-before s b (i - 1) one_less (omega arith) (omega arith) (rw two-less m))
-
--- the first byte, where it alone is left
-module _ (s : Text) (b i : ℕ) (inv : past_last b (take i s) ≡ past_last b s) (l : i ≤ length s) (h : i ≤ 1) (some : i ≡ 0 → ⊥) where
-  none-less : i - 1 ≡ 0
-  none-less = omega arith
-
-  pub last-first : get_or s 0 0 ≡ b → 1 ≡ past_last b s
-  last-first e = let g : i ≡ past_last b s = last-here s b i inv l (omega arith) (rw none-less e) in omega arith
-
-  pub last-not-first : (get_or s 0 0 ≡ b → ⊥) → 0 ≡ past_last b s
-  last-not-first n = rw none-less at (last-before s b i inv l (omega arith) (rw none-less n))
-
--- the whole text is where the look begins
-pub last-whole : (s : Text) (b : ℕ) → past_last b (take (length s) s) ≡ past_last b s
-last-whole s b = ap (past_last b) (take-length s)
+  pub among-done : length s ≤ i → found ≡ has_byte b s
+  among-done h = go found (rw (rest_end s i h) at inv)
+    where
+      go : (f : Bool) → (f || false) ≡ has_byte b s → f ≡ has_byte b s
+      go true q = q
+      go false q = q

@@ -5,10 +5,13 @@ use mathlib.Core.List.{[], ◌∷◌}
 use Prim.Native.Nat.{ℕ, suc, ◌+◌, ◌≤◌, ◌<◌}
 use native.Mathlib.Nat.{add-zero}
 use native.Mathlib.Omega.{arith}
-use borrow.Author.Tests.{eq-eqb, ne_eqb, not-true, not-false, lt-ltb}
+use borrow.Author.Tests.{eq-eqb, ne_eqb, eqb-false, not-true, not-false, lt-ltb}
 use lib.Dec.{eqb, ltb, leb-suc-suc}
 use lib.ListN.{length, get_or, drop}
-use Rattle.meaning.specs.Bytes.{Text, ◌or◌, every, has_byte, count}
+use Rattle.std.proofs.Common.{nat_eq, position, Option, Some, None, MatchOption, ap, one-add, ltb-true, ltb-false, ◌||◌, ◌&&◌, eqb-true}
+use Rattle.std.specs.List.{position_or_len, list_any, list_all}
+use Rattle.std.proofs.lemmas.List.Recursion.{is_position_or_len}
+use Rattle.meaning.specs.Bytes.{Text, ◌and◌, ◌or◌, every, has_byte, count}
 use Rattle.text.specs.Place.{first_at}
 use Rattle.text.proofs.Rests.{rest-cons, rest_end}
 
@@ -29,15 +32,26 @@ module _ (test : ℕ → Bool) (s : Text) (i : ℕ) (inv : every test (drop i s)
   pub every-done : length s ≤ i → true ≡ every test s
   every-done h = rw (rest_end s i h) at inv
 
-module _ (s : Text) (from b i : ℕ) (inv : i + first_at b (drop i s) ≡ from + first_at b (drop from s)) where
-  pub find-here : i < length s → get_or s i 0 ≡ b → i ≡ from + first_at b (drop from s)
-  find-here h e = sym (add-zero i) ∙ rw (rest-cons s i h, byte-is _ _ e) at inv
+-- the first place as std says it
+first-at : (b : ℕ) (s : Text) → first_at b s ≡ position_or_len (nat_eq b) s
+first-at b s = is_position_or_len (first_at b) (nat_eq b) refl (λ x l. ap (cond (eqb b x) 0) (sym (one-add (first_at b l)))) s
 
-  pub find-more : i < length s → (get_or s i 0 ≡ b → ⊥) → i + 1 + first_at b (drop (i + 1) s) ≡ from + first_at b (drop from s)
-  find-more h n = let g : i + suc (first_at b (drop (i + 1) s)) ≡ from + first_at b (drop from s) = rw (rest-cons s i h, byte-other _ _ n) at inv in omega arith
+-- no place is past the end
+first-within : (b : ℕ) (s : Text) → first_at b s ≤ length s
+first-within b [] = omega arith
+first-within b (x ∷ s) = go (eqb b x) (first-within b s)
+  where
+    go : (here : Bool) → first_at b s ≤ length s → cond here 0 (suc (first_at b s)) ≤ suc (length s)
+    go true h = omega arith
+    go false h = omega arith
 
-  pub find_none : length s ≤ i → i ≡ from + first_at b (drop from s)
-  find_none h = sym (add-zero i) ∙ rw (rest_end s i h) at inv
+-- where std finds a byte
+pub found : (b : ℕ) (s : Text) (r : Option ℕ) → r ≡ position (nat_eq b) s → MatchOption r (first_at b s ≡ length s) (λ i. (i ≡ first_at b s) × (i < length s))
+found b s r e = rw (e, ← first-at b s) (go (ltb (first_at b s) (length s)) refl)
+  where
+    go : (t : Bool) → ltb (first_at b s) (length s) ≡ t → MatchOption (cond t (Some (first_at b s)) None) (first_at b s ≡ length s) (λ i. (i ≡ first_at b s) × (i < length s))
+    go true q = (refl, ltb-true _ _ q)
+    go false q = omega (arith, ltb-false _ _ q, first-within b s)
 
 -- a byte stands in the text where its first place is before the end
 byte-first : (b : ℕ) (s : Text) → ltb (first_at b s) (length s) ≡ has_byte b s
@@ -51,6 +65,26 @@ byte-first b (x ∷ s) = go (eqb b x) (byte-first b s)
 pub byte-found : (s : Text) (b n : ℕ) → n ≡ first_at b s → ltb n (length s) ≡ has_byte b s
 byte-found s b n e = rw e (byte-first b s)
 
+-- a test of two numbers asks the same either way round
+pub eqb_swap : (m n : ℕ) → eqb m n ≡ eqb n m
+eqb_swap m n = go (eqb n m) refl
+  where
+    go : (b : Bool) → eqb n m ≡ b → eqb m n ≡ b
+    go true e = eq-eqb m n (sym (eqb-true n m e))
+    go false e = ne_eqb m n (λ q. eqb-false n m e (sym q))
+
+either : (a b c : Bool) → a ≡ b → (a || c) ≡ (b or c)
+either true b c e = rw (← e)
+either false b c e = rw (← e)
+
+-- one of the bytes as std says it
+pub byte-in : (b : ℕ) (s : Text) (r : Bool) → r ≡ list_any (λ y. nat_eq y b) s → r ≡ has_byte b s
+byte-in b s r e = e ∙ go s
+  where
+    go : (s : Text) → list_any (λ y. nat_eq y b) s ≡ has_byte b s
+    go [] = refl
+    go (x ∷ s) = rw (go s) (either (eqb x b) (eqb b x) (has_byte b s) (eqb_swap x b))
+
 module _ (s : Text) (b n i : ℕ) (inv : n + count b (drop i s) ≡ count b s) where
   pub count-hit : i < length s → get_or s i 0 ≡ b → n + 1 + count b (drop (i + 1) s) ≡ count b s
   count-hit h e = let g : n + suc (count b (drop (i + 1) s)) ≡ count b s = rw (rest-cons s i h, byte-is _ _ e) at inv in omega arith
@@ -60,3 +94,15 @@ module _ (s : Text) (b n i : ℕ) (inv : n + count b (drop i s) ≡ count b s) w
 
   pub count-done : length s ≤ i → n ≡ count b s
   count-done h = sym (add-zero n) ∙ rw (rest_end s i h) at inv
+
+-- a test of every byte as std says it
+pub every-all : (t u : ℕ → Bool) → ((x : ℕ) → u x ≡ t x) → (s : Text) (r : Bool) → r ≡ list_all u s → r ≡ every t s
+every-all t u h s r e = e ∙ go s
+  where
+    both : (a b c : Bool) → a ≡ b → (a && c) ≡ (b and c)
+    both true b c q = rw (← q)
+    both false b c q = rw (← q)
+
+    go : (s : Text) → list_all u s ≡ every t s
+    go [] = refl
+    go (x ∷ s) = rw (go s) (both (u x) (t x) (every t s) (h x))

@@ -1,5 +1,5 @@
 -- Where the last of a byte stands in a text.
-use Rattle.std.specs.Prelude.{Bool, cond, [], ◌∷◌, ℕ, zero, suc, ◌+◌, eqb, ltb}
+use Rattle.std.specs.Prelude.{Bool, false, cond, [], ◌∷◌, ℕ, zero, suc, ◌≤◌, ◌<◌, ◌≡◌, ◌==◌, eqb, ltb, length, slice_index}
 use Rattle.meaning.specs.Bytes.{Text, count_if}
 
 -- one byte more before a text whose last b was passed at n; 0 where it had none
@@ -16,7 +16,6 @@ past_last b (x ∷ s) = past_next (eqb b x) (past_last b s)
 unfoldable pub later : ℕ → ℕ → ℕ
 later x y = cond (ltb x y) y x
 
--- a place counted from k on, and not from 1; 0 is none
-abbrev pub counted_from : ℕ → ℕ → ℕ
-counted_from k zero = 0
-counted_from k (suc n) = k + n
+-- no byte of s from the place i on is b
+abbrev pub NoneFrom : ℕ → Text → ℕ → Type 0
+NoneFrom b s i = (k : ℕ) → i ≤ k → k < length s → (b == slice_index s k) ≡ false

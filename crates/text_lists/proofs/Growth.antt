@@ -7,7 +7,7 @@ use native.Mathlib.Omega.{arith}
 use mir.Val.{Fits}
 use mir.Syntax.{w64}
 use lib.Dec.{eqb}
-use lib.ListN.{length, take, drop, get_or, get_or-eq_default}
+use lib.ListN.{length, take, drop, get_or}
 use lib.Seq.{take_at, length-take-le}
 use Rattle.meaning.specs.Bytes.{Text}
 use Rattle.meaning.specs.Limits.{spec_list_bytes, item_list_bytes, program_bytes}
@@ -15,18 +15,25 @@ use Rattle.meaning.specs.Number.{text_bytes, record_bytes}
 use Rattle.buffer.specs.Splice.{splice}
 use Rattle.buffer.proofs.Splices.{splice-none, splice-start}
 use Rattle.text.proofs.Rests.{rest_part}
-use Rattle.text.proofs.Scans.{byte-is, byte-other}
 use Rattle.percent.proofs.Walks.{text-short}
 use Rattle.print.specs.Unshown.{Unshown, stands, fault, text_of, unshown}
-use Rattle.percent.specs.declared.Measured.{Measured}
-use Rattle.percent.specs.declared.Measured.TheVariants.{Size, Fault}
+use Rattle.std.specs.Prelude.{Result, Ok, Err}
+use Rattle.refusal.specs.declared.Refusal.{Refusal}
+use Rattle.refusal.specs.Numbers.{number_of, number_or0}
+use Rattle.refusal.proofs.Numbers.{number_of-positive}
+use Rattle.percent.specs.declared.Fault.{Fault}
 use Rattle.percent.specs.Decode.{measured, Decodes}
 use Rattle.text_lists.specs.declared.line.Line.{Line}
-use Rattle.text_lists.specs.declared.line.Line.TheVariants.{Nothing, Fetch, Push, Name, Shown, Marked, Unknown}
+use Rattle.text_lists.specs.declared.line.Line.TheVariants.{Nothing, Fetch, Name, Shown, Marked, Unknown}
+use Rattle.text_lists.specs.declared.line.Line.TheVariants as kind
 use Rattle.text_lists.specs.Line.{Held, nothing, marked, unknown, fetch, push, name, shown, held_in, TellsLine}
 use Rattle.text_lists.specs.declared.Lists.{Lists}
-use Rattle.text_lists.specs.Gather.{spec_reason, name_reason, fault_reason, unshown_reason, unshown_names, reason_of, specs_in, names_in}
-use Rattle.text_lists.specs.Growing.{Room, stopped, unless_refused, Grows, SpecAdds, NamesAdd, NameAdds, ShownAdds, LineAdds}
+use Rattle.text_lists.specs.declared.reason.Reason.{Reason}
+use Rattle.text_lists.specs.declared.reason.Reason.TheVariants.{Question, Push}
+use Rattle.text_lists.specs.declared.reason.Reason.TheVariants as reason
+use Rattle.text_lists.specs.Reasons.{reason_number}
+use Rattle.text_lists.specs.Gather.{spec_reason, name_reason, fault_reason, reason_of, specs_in, names_in}
+use Rattle.text_lists.specs.Growing.{Room, reason_in, lists_after, unless_refused, Grows, SpecAdds, NameAdds, ShownAdds, LineAdds}
 use Rattle.text_lists.proofs.Reasons.{spec-passes, name-passes}
 
 -- what is refused adds nothing
@@ -69,74 +76,75 @@ more limit t count size d e end h p q = record {
 stays-new : (limit n : ℕ) (l : List Text) → unless_refused n l ≡ [] → (count size count_after size_after : ℕ) (d : Text) → count_after ≡ count → size_after ≡ size → size ≤ limit → Grows limit (unless_refused n l) count size d count_after size_after d
 stays-new limit n l e count size count_after size_after d p q h = rw (e, p, q) (stays limit count size d h)
 
--- a spec, for a reason that was found
-module _ (t : Text) (so : Lists) (d : Text) (n : ℕ) (en : n ≡ spec_reason so.specs so.specs_size t) (room : Room spec_list_bytes so.specs_size d) where
-  pub spec-refused : (n ≡ 0 → ⊥) → (r : Lists) → r ≡ stopped so n → SpecAdds t so r d d
-  spec-refused h r e = rw e (record {
-    reason-is = en;
-    grows = stays-new spec_list_bytes n (t ∷ []) (refused_none n (t ∷ []) h) so.specs so.specs_size so.specs so.specs_size d refl refl room.small;
-    names-stay = refl;
-    bytes-stay = refl;
-  })
+-- the number of a question that was asked
+asked-ok : (p : Result (Unit {0}) Refusal) (u : Unit {0}) → p ≡ Ok u → number_or0 p ≡ 0
+asked-ok p u e = rw e
 
-  module _ (z : n ≡ 0) where
+asked-err : (p : Result (Unit {0}) Refusal) (q : Refusal) → p ≡ Err q → number_or0 p ≡ number_of q
+asked-err p q e = rw e
+
+some-number : (q : Refusal) → number_of q ≡ 0 → ⊥
+some-number q e = omega (arith, number_of-positive q)
+
+-- a spec, for the question that was asked
+module _ (t : Text) (so : Lists) (d : Text) (p : Result (Unit {0}) Refusal) (ep : number_or0 p ≡ spec_reason so.specs so.specs_size t) (room : Room spec_list_bytes so.specs_size d) where
+  pub spec-refused : (q : Refusal) → p ≡ Err q → (r : Reason) → r ≡ Question q → SpecAdds t so (Err r) d d
+  spec-refused q f r e =
+      let n : number_of q ≡ spec_reason so.specs so.specs_size t = sym (asked-err p q f) ∙ ep in
+      rw e (record {
+        reason-is = n;
+        grows = stays-new spec_list_bytes (number_of q) (t ∷ []) (refused_none (number_of q) (t ∷ []) (some-number q)) so.specs so.specs_size so.specs so.specs_size d refl refl room.small;
+        names-stay = refl;
+        bytes-stay = refl;
+      })
+
+  module _ (u : Unit {0}) (f : p ≡ Ok u) where
+    spec-asked : spec_reason so.specs so.specs_size t ≡ 0
+    spec-asked = sym ep ∙ asked-ok p u f
+
     pub spec-room : so.specs_size + length (text_bytes t) ≤ length d
-    spec-room = omega (arith, (spec-passes so.specs so.specs_size t (sym en ∙ z)).fits, room.long)
+    spec-room = omega (arith, (spec-passes so.specs so.specs_size t spec-asked).fits, room.long)
 
     pub spec-counts : Fits w64 (so.specs + 1)
-    spec-counts = omega (arith, (spec-passes so.specs so.specs_size t (sym en ∙ z)).few)
+    spec-counts = omega (arith, (spec-passes so.specs so.specs_size t spec-asked).few)
 
-    pub spec-added : (e : Text) (end : ℕ) → e ≡ splice d so.specs_size (text_bytes t) → end ≡ so.specs_size + length (text_bytes t) → SpecAdds t so (record { reason = 0; specs = so.specs + 1; specs_size = end; names = so.names; names_size = so.names_size }) d e
+    pub spec-added : (e : Text) (end : ℕ) → e ≡ splice d so.specs_size (text_bytes t) → end ≡ so.specs_size + length (text_bytes t) → SpecAdds t so (Ok (record { specs = so.specs + 1; specs_size = end; names = so.names; names_size = so.names_size })) d e
     spec-added e end p q = record {
-      reason-is = sym z ∙ en;
-      grows = more spec_list_bytes t so.specs so.specs_size d e end (spec-passes so.specs so.specs_size t (sym en ∙ z)).fits p q;
+      reason-is = sym spec-asked;
+      grows = more spec_list_bytes t so.specs so.specs_size d e end (spec-passes so.specs so.specs_size t spec-asked).fits p q;
       names-stay = refl;
       bytes-stay = refl;
     }
 
--- a name, for a reason that was found
-module _ (t : Text) (so : Lists) (d : Text) (n : ℕ) (en : n ≡ name_reason so.names so.names_size t) (room : Room item_list_bytes so.names_size d) where
-  pub name-refused : (n ≡ 0 → ⊥) → (r : Lists) → r ≡ stopped so n → NameAdds t so r d d
-  name-refused h r e = rw e (record {
-    reason-is = en;
-    grows = stays-new item_list_bytes n (t ∷ []) (refused_none n (t ∷ []) h) so.names so.names_size so.names so.names_size d refl refl room.small;
-    specs-stay = refl;
-    bytes-stay = refl;
-  })
+-- a name, for the question that was asked
+module _ (t : Text) (so : Lists) (d : Text) (p : Result (Unit {0}) Refusal) (ep : number_or0 p ≡ name_reason so.names so.names_size t) (room : Room item_list_bytes so.names_size d) where
+  pub name-refused : (q : Refusal) → p ≡ Err q → (r : Reason) → r ≡ Question q → NameAdds t so (Err r) d d
+  name-refused q f r e =
+      let n : number_of q ≡ name_reason so.names so.names_size t = sym (asked-err p q f) ∙ ep in
+      rw e (record {
+        reason-is = n;
+        grows = stays-new item_list_bytes (number_of q) (t ∷ []) (refused_none (number_of q) (t ∷ []) (some-number q)) so.names so.names_size so.names so.names_size d refl refl room.small;
+        specs-stay = refl;
+        bytes-stay = refl;
+      })
 
-  module _ (z : n ≡ 0) where
+  module _ (u : Unit {0}) (f : p ≡ Ok u) where
+    name-asked : name_reason so.names so.names_size t ≡ 0
+    name-asked = sym ep ∙ asked-ok p u f
+
     pub name-room : so.names_size + length (text_bytes t) ≤ length d
-    name-room = omega (arith, (name-passes so.names so.names_size t (sym en ∙ z)).fits, room.long)
+    name-room = omega (arith, (name-passes so.names so.names_size t name-asked).fits, room.long)
 
     pub name-counts : Fits w64 (so.names + 1)
-    name-counts = omega (arith, (name-passes so.names so.names_size t (sym en ∙ z)).few)
+    name-counts = omega (arith, (name-passes so.names so.names_size t name-asked).few)
 
-    pub name-added : (e : Text) (end : ℕ) → e ≡ splice d so.names_size (text_bytes t) → end ≡ so.names_size + length (text_bytes t) → NameAdds t so (record { reason = 0; specs = so.specs; specs_size = so.specs_size; names = so.names + 1; names_size = end }) d e
+    pub name-added : (e : Text) (end : ℕ) → e ≡ splice d so.names_size (text_bytes t) → end ≡ so.names_size + length (text_bytes t) → NameAdds t so (Ok (record { specs = so.specs; specs_size = so.specs_size; names = so.names + 1; names_size = end })) d e
     name-added e end p q = record {
-      reason-is = sym z ∙ en;
-      grows = more item_list_bytes t so.names so.names_size d e end (name-passes so.names so.names_size t (sym en ∙ z)).fits p q;
+      reason-is = sym name-asked;
+      grows = more item_list_bytes t so.names so.names_size d e end (name-passes so.names so.names_size t name-asked).fits p q;
       specs-stay = refl;
       bytes-stay = refl;
     }
-
--- why a fault is refused
-fault-some : (u : Text) (k : ℕ) → (k ≡ 0 → ⊥) → fault_reason u k ≡ cond (eqb 37 (get_or u k 0)) 105 106
-fault-some u zero z = absurd (z refl)
-fault-some u (suc k) z = refl
-
-module _ (u : Text) (k : ℕ) where
-  pub fault-unsigned : k ≡ 0 → 104 ≡ fault_reason u k
-  fault-unsigned z = rw z
-
-  module _ (z : k ≡ 0 → ⊥) where
-    pub fault_past : length u ≤ k → 106 ≡ fault_reason u k
-    fault_past h = rw (fault-some u k z, get_or-eq_default u 0 h)
-
-    pub fault-escape : get_or u k 0 ≡ 37 → 105 ≡ fault_reason u k
-    fault-escape e = rw (fault-some u k z, byte-is (get_or u k 0) 37 e)
-
-    pub fault-unprinted : (get_or u k 0 ≡ 37 → ⊥) → 106 ≡ fault_reason u k
-    fault-unprinted n = rw (fault-some u k z, byte-other (get_or u k 0) 37 n)
 
 pub fault-refuses : (u : Text) (k : ℕ) → fault_reason u k ≡ 0 → ⊥
 fault-refuses u zero e = omega arith
@@ -147,33 +155,33 @@ fault-refuses u (suc k) e = go (eqb 37 (get_or u (suc k) 0)) e
     go false z = omega arith
 
 -- a name as a listing shows it, from what was decoded
-module _ (u : Text) (m : Measured) (entry exit : Text) (decodes : Decodes (unshown u) entry exit m) (so : Lists) (d : Text) where
-  decoded : (r : Unshown) (n : ℕ) → m ≡ measured r → m ≡ Size n → exit ≡ splice entry 0 (text_of r) → r ≡ stands (take n exit)
+module _ (u : Text) (m : Result ℕ Fault) (entry exit : Text) (decodes : Decodes (unshown u) entry exit m) (so : Lists) (d : Text) where
+  decoded : (r : Unshown) (n : ℕ) → m ≡ measured r → m ≡ Ok n → exit ≡ splice entry 0 (text_of r) → r ≡ stands (take n exit)
   decoded (stands t) n e f p = let q : length t ≡ n = cc in ap stands (sym (rw (p, splice-start entry t, ← q) (take_at t (drop (length t) entry) (length t) refl)))
-  decoded (fault k) n e f p = absurd (let z : ◌≡◌ {A = ℕ} 0 1 = cc in omega arith)
+  decoded (fault k) n e f p = cc
 
-  pub shown-added : (n : ℕ) → m ≡ Size n → (r : Lists) (e : Text) → NameAdds (take n exit) so r d e → ShownAdds u so r d e
+  pub shown-added : (n : ℕ) → m ≡ Ok n → (r : Result Lists Reason) (e : Text) → NameAdds (take n exit) so r d e → ShownAdds u so r d e
   shown-added n f r e adds = rw (decoded (unshown u) n decodes.tells f decodes.puts) adds
 
-  faulty : (r : Unshown) (k : ℕ) → m ≡ measured r → m ≡ Fault k → r ≡ fault k
-  faulty (stands t) k e f = absurd (let z : ◌≡◌ {A = ℕ} 0 1 = cc in omega arith)
-  faulty (fault j) k e f = let q : j ≡ k = cc in ap fault q
+  faulty : (r : Unshown) (k : Fault) → m ≡ measured r → m ≡ Err k → r ≡ fault k.at
+  faulty (stands t) k e f = cc
+  faulty (fault j) k e f = let q : record { at = j } ≡ k = cc in ap fault (ap (λ (x : Fault). x.at) q)
 
-  pub shown-refused : (k : ℕ) → m ≡ Fault k → (n : ℕ) → n ≡ fault_reason u k → Room item_list_bytes so.names_size d → (r : Lists) → r ≡ stopped so n → ShownAdds u so r d d
-  shown-refused k f n en room r e = rw (faulty (unshown u) k decodes.tells f, e) (record {
+  pub shown-refused : (k : Fault) → m ≡ Err k → (q : Reason) → reason_number q ≡ fault_reason u k.at → Room item_list_bytes so.names_size d → ShownAdds u so (Err q) d d
+  shown-refused k f q en room = rw (faulty (unshown u) k decodes.tells f) (record {
     reason-is = en;
-    grows = stays-new item_list_bytes n [] (none-new n) so.names so.names_size so.names so.names_size d refl refl room.small;
+    grows = stays-new item_list_bytes (reason_number q) [] (none-new (reason_number q)) so.names so.names_size so.names so.names_size d refl refl room.small;
     specs-stay = refl;
     bytes-stay = refl;
   })
 
 -- it is no longer than what shows it
-pub shown-room : (u : Text) (m : Measured) (entry exit : Text) → Decodes (unshown u) entry exit m → (n : ℕ) → m ≡ Size n → length u ≤ program_bytes → length exit ≡ program_bytes → n ≤ length exit
+pub shown-room : (u : Text) (m : Result ℕ Fault) (entry exit : Text) → Decodes (unshown u) entry exit m → (n : ℕ) → m ≡ Ok n → length u ≤ program_bytes → length exit ≡ program_bytes → n ≤ length exit
 shown-room u m entry exit decodes n f h l = sizes (unshown u) decodes.tells (text-short u)
   where
     sizes : (r : Unshown) → m ≡ measured r → length (text_of r) ≤ length u → n ≤ length exit
     sizes (stands t) e s = let q : length t ≡ n = cc in omega arith
-    sizes (fault k) e s = absurd (let z : ◌≡◌ {A = ℕ} 0 1 = cc in omega arith)
+    sizes (fault k) e s = cc
 
 -- the first bytes of a buffer are no more than it has
 pub first_fits : (n : ℕ) (b : Text) → n ≤ length b → length b ≤ program_bytes → length (take n b) ≤ program_bytes
@@ -182,27 +190,27 @@ first_fits n b h l = omega (arith, length-take-le n b h)
 -- what a line holds, from the answer about it
 module _ (line : Text) (a : Line) (tells : TellsLine line a) (so : Lists) (d₁ d₂ : Text) (room₁ : Room spec_list_bytes so.specs_size d₁) (room₂ : Room item_list_bytes so.names_size d₂) where
   -- a line that adds nothing, for a reason or for none
-  stays-both : (h : Held) (n : ℕ) → specs_in h ≡ [] → names_in h ≡ [] → n ≡ reason_of so.specs so.specs_size so.names so.names_size h → LineAdds h so (stopped so n) d₁ d₂ d₁ d₂
-  stays-both h n p q e = record {
+  stays-both : (h : Held) (r : Result Lists Reason) → lists_after so r ≡ so → specs_in h ≡ [] → names_in h ≡ [] → reason_in r ≡ reason_of so.specs so.specs_size so.names so.names_size h → LineAdds h so r d₁ d₂ d₁ d₂
+  stays-both h r f p q e = record {
     reason-is = e;
-    specs-grow = rw p (stays-new spec_list_bytes n [] (none-new n) so.specs so.specs_size so.specs so.specs_size d₁ refl refl room₁.small);
-    names-grow = rw q (stays-new item_list_bytes n [] (none-new n) so.names so.names_size so.names so.names_size d₂ refl refl room₂.small);
+    specs-grow = rw (f, p) (stays-new spec_list_bytes (reason_in r) [] (none-new (reason_in r)) so.specs so.specs_size so.specs so.specs_size d₁ refl refl room₁.small);
+    names-grow = rw (f, q) (stays-new item_list_bytes (reason_in r) [] (none-new (reason_in r)) so.names so.names_size so.names so.names_size d₂ refl refl room₂.small);
   }
 
-  module _ (r : Lists) where
-    pub line-nothing : a ≡ Nothing → r ≡ stopped so 0 → LineAdds (held_in line) so r d₁ d₂ d₁ d₂
-    line-nothing e f = let m : nothing ≡ held_in line = rw e at tells.means in rw (f, ← m) (stays-both nothing 0 refl refl refl)
+  pub line-nothing : a ≡ Nothing → LineAdds (held_in line) so (Ok so) d₁ d₂ d₁ d₂
+  line-nothing e = let m : nothing ≡ held_in line = rw e at tells.means in rw (← m) (stays-both nothing (Ok so) refl refl refl refl)
 
-    pub line-unknown : a ≡ Unknown → r ≡ stopped so 102 → LineAdds (held_in line) so r d₁ d₂ d₁ d₂
-    line-unknown e f = let m : unknown ≡ held_in line = rw e at tells.means in rw (f, ← m) (stays-both unknown 102 refl refl refl)
+  pub line-unknown : a ≡ Unknown → LineAdds (held_in line) so (Err reason.Unknown) d₁ d₂ d₁ d₂
+  line-unknown e = let m : unknown ≡ held_in line = rw e at tells.means in rw (← m) (stays-both unknown (Err reason.Unknown) refl refl refl refl)
 
-    pub line_marked : a ≡ Marked → r ≡ stopped so 103 → LineAdds (held_in line) so r d₁ d₂ d₁ d₂
-    line_marked e f = let m : marked ≡ held_in line = rw e at tells.means in rw (f, ← m) (stays-both marked 103 refl refl refl)
+  pub line_marked : a ≡ Marked → LineAdds (held_in line) so (Err reason.Marked) d₁ d₂ d₁ d₂
+  line_marked e = let m : marked ≡ held_in line = rw e at tells.means in rw (← m) (stays-both marked (Err reason.Marked) refl refl refl refl)
 
-    module _ (at : ℕ) where
-      pub line-push : a ≡ Push at → r ≡ stopped so 101 → LineAdds (held_in line) so r d₁ d₂ d₁ d₂
-      line-push e f = let m : push (drop at line) ≡ held_in line = rw e at tells.means in rw (f, ← m) (stays-both (push (drop at line)) 101 refl refl refl)
+  module _ (at : ℕ) where
+    pub line-push : a ≡ kind.Push at → LineAdds (held_in line) so (Err Push) d₁ d₂ d₁ d₂
+    line-push e = let m : push (drop at line) ≡ held_in line = rw e at tells.means in rw (← m) (stays-both (push (drop at line)) (Err Push) refl refl refl refl)
 
+    module _ (r : Result Lists Reason) where
       pub line-fetch : a ≡ Fetch at → (e : Text) → SpecAdds (take (length line - at) (drop at line)) so r d₁ e → LineAdds (held_in line) so r d₁ d₂ e d₂
       line-fetch f e adds =
           let m : fetch (drop at line) ≡ held_in line = rw f at tells.means in
@@ -210,7 +218,7 @@ module _ (line : Text) (a : Line) (tells : TellsLine line a) (so : Lists) (d₁ 
           rw (← m) (record {
             reason-is = x.reason-is;
             specs-grow = x.grows;
-            names-grow = stays-new item_list_bytes r.reason [] (none-new r.reason) so.names so.names_size r.names r.names_size d₂ x.names-stay x.bytes-stay room₂.small;
+            names-grow = stays-new item_list_bytes (reason_in r) [] (none-new (reason_in r)) so.names so.names_size (lists_after so r).names (lists_after so r).names_size d₂ x.names-stay x.bytes-stay room₂.small;
           })
 
       pub line-name : a ≡ Name at → (e : Text) → NameAdds (take (length line - at) (drop at line)) so r d₂ e → LineAdds (held_in line) so r d₁ d₂ d₁ e
@@ -219,7 +227,7 @@ module _ (line : Text) (a : Line) (tells : TellsLine line a) (so : Lists) (d₁ 
           let x : NameAdds (drop at line) so r d₂ e = rw (rest_part line at) at adds in
           rw (← m) (record {
             reason-is = x.reason-is;
-            specs-grow = stays-new spec_list_bytes r.reason [] (none-new r.reason) so.specs so.specs_size r.specs r.specs_size d₁ x.specs-stay x.bytes-stay room₁.small;
+            specs-grow = stays-new spec_list_bytes (reason_in r) [] (none-new (reason_in r)) so.specs so.specs_size (lists_after so r).specs (lists_after so r).specs_size d₁ x.specs-stay x.bytes-stay room₁.small;
             names-grow = x.grows;
           })
 
@@ -229,6 +237,6 @@ module _ (line : Text) (a : Line) (tells : TellsLine line a) (so : Lists) (d₁ 
           let x : ShownAdds (drop at line) so r d₂ e = rw (rest_part line at) at adds in
           rw (← m) (record {
             reason-is = x.reason-is;
-            specs-grow = stays-new spec_list_bytes r.reason [] (none-new r.reason) so.specs so.specs_size r.specs r.specs_size d₁ x.specs-stay x.bytes-stay room₁.small;
+            specs-grow = stays-new spec_list_bytes (reason_in r) [] (none-new (reason_in r)) so.specs so.specs_size (lists_after so r).specs (lists_after so r).specs_size d₁ x.specs-stay x.bytes-stay room₁.small;
             names-grow = x.grows;
           })

@@ -1,23 +1,13 @@
 -- The branches of the questions about a line. Assumes nothing.
-use Prim.Native.Nat.{ℕ, ◌≤◌}
+use Prim.Native.Nat.{◌≤◌}
 use mathlib.Core.Path.{◌≡◌, sym, ap, ◌∙◌}
 use mathlib.Core.Bool.{Bool, true, false}
 use native.Mathlib.Omega.{arith}
-use borrow.Author.Tests.{eq-eqb, ne_eqb}
-use lib.Dec.{eqb}
 use lib.ListN.{length, drop, length-append}
 use Rattle.meaning.specs.Bytes.{Text, bytes, every, begins}
 use Rattle.promises.proofs.Captures.{begins-is}
-use Rattle.text_lists.specs.declared.line.Line.{Line}
 use Rattle.text_lists.specs.declared.line.Line.TheVariants.{Nothing, Fetch, Push, Name, Shown, Marked, Unknown}
 use Rattle.text_lists.specs.Line.{blank_byte, byte_order_mark, held_in, TellsLine}
-
--- a space, and any other byte
-pub blank-space : (b : ℕ) → b ≡ 32 → true ≡ blank_byte b
-blank-space b e = rw (eq-eqb b 32 e)
-
-pub blank-tab : (b : ℕ) → (b ≡ 32 → ⊥) → eqb b 9 ≡ blank_byte b
-blank-tab b n = rw (ne_eqb b 32 n)
 
 -- what a line begins with is no longer than the line
 word-within : (p t : Text) (b : Bool) → b ≡ begins p t → b ≡ true → length p ≤ length t
@@ -62,17 +52,3 @@ module _ (t : Text) (a : Bool) (ea : a ≡ every blank_byte t) where
               pub line-unknown : m ≡ false → TellsLine t Unknown
               unfolding held_in
               line-unknown e = record { means = rw (sym ea ∙ na, sym eb ∙ nb, sym ef ∙ nf, sym ep ∙ np, sym en ∙ nn, sym ew ∙ nw, sym em ∙ e); within = _ }
-
--- the place of what a line holds stands within the line
-module _ (l : Text) (a : Line) (tells : TellsLine l a) (at : ℕ) where
-  pub fetch-within : a ≡ Fetch at → at ≤ length l
-  fetch-within e = rw e at tells.within
-
-  pub push-within : a ≡ Push at → at ≤ length l
-  push-within e = rw e at tells.within
-
-  pub name-within : a ≡ Name at → at ≤ length l
-  name-within e = rw e at tells.within
-
-  pub shown-within : a ≡ Shown at → at ≤ length l
-  shown-within e = rw e at tells.within

@@ -6,12 +6,12 @@ use mathlib.Core.List.{List, [], ◌∷◌}
 use native.Mathlib.Omega.{arith}
 use lib.Dec.{eqb}
 use lib.ListN.{length, take, drop, get_or, length-drop}
-use lib.Seq.{drop-drop, take-length, get_or-drop, take_all}
-use Rattle.meaning.specs.Bytes.{Text, ◌and◌, begins}
+use lib.Seq.{drop-drop, get_or-drop, take_all}
+use Rattle.meaning.specs.Bytes.{Text, ◌and◌, begins, numbered_from}
 use Rattle.text.specs.Place.{first_at}
-use Rattle.text.proofs.Rests.{rest-cons, rest_end}
+use Rattle.text.proofs.Rests.{rest_end}
 use Rattle.text.proofs.Scans.{byte-is, byte-other}
-use Rattle.text_lists.specs.Line.{before_first, lines_of, LineAt}
+use Rattle.text_lists.specs.Line.{before_first, lines_of, lines_left, LineAt}
 
 -- a line without a carriage return at its end
 abbrev chopped : Text → Text
@@ -130,6 +130,35 @@ module _ (s : Text) (at feed : ℕ) (h : at < length s) (e : feed ≡ at + first
         within = omega arith;
       }
 
--- no line is left
-pub line-none : (s : Text) (at : ℕ) → length s ≤ at → lines_of (drop at s) ≡ []
-line-none s at h = ap lines_of (rest_end s at h)
+-- each line has at most so many bytes
+abbrev Short : ℕ → List Text → Type 0
+Short m [] = Unit {0}
+Short m (l ∷ ls) = (length l ≤ m) × Short m ls
+
+-- and so each with its number
+abbrev pub LinesShort : ℕ → List (ℕ × Text) → Type 0
+LinesShort m [] = Unit {0}
+LinesShort m (l ∷ ls) = (length l.1 ≤ m) × LinesShort m ls
+
+-- no line is longer than its text
+lines-short : (m : ℕ) (s : Text) → length s ≤ m → Short m (lines_of s)
+lines-short m [] h = tt
+lines-short zero (x ∷ s) h = absurd (omega arith)
+lines-short (suc m) (x ∷ s) h = go (eqb 10 x) (eqb 13 x and begins (10 ∷ []) s) (lines-short (suc m) s (omega arith)) (lines-short m s (omega arith))
+  where
+    firsts : (ls : List Text) → Short (suc m) ls → Short m ls → Short (suc m) (before_first x ls)
+    firsts [] p q = (omega arith, tt)
+    firsts (l ∷ ls) p q = let k : length l ≤ m = q.0 in (omega arith, p.1)
+
+    go : (b c : Bool) → Short (suc m) (lines_of s) → Short m (lines_of s) → Short (suc m) (cond b ([] ∷ lines_of s) (cond c (lines_of s) (before_first x (lines_of s))))
+    go true c p q = (omega arith, p)
+    go false true p q = p
+    go false false p q = firsts (lines_of s) p q
+
+-- nor one of those that are left
+pub left-short : (m k : ℕ) (s : Text) → length s ≤ m → LinesShort m (lines_left k s)
+left-short m k s h = numbers (k + 1) (lines_of s) (lines-short m s h)
+  where
+    numbers : (n : ℕ) (ls : List Text) → Short m ls → LinesShort m (numbered_from n ls)
+    numbers n [] p = tt
+    numbers n (l ∷ ls) p = (p.0, numbers (suc n) ls p.1)

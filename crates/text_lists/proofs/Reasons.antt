@@ -1,6 +1,6 @@
 -- The questions asked of a spec and of a name. Assumes nothing.
-use Prim.Native.Nat.{ℕ, zero, suc, ◌+◌, ◌-◌, ◌<◌, ◌≤◌}
-use mathlib.Core.Path.{◌≡◌, refl, sym, ◌∙◌}
+use Prim.Native.Nat.{ℕ, ◌+◌, ◌-◌, ◌<◌, ◌≤◌}
+use mathlib.Core.Path.{◌≡◌, refl}
 use mathlib.Core.Bool.{Bool, true, false}
 use native.Mathlib.Omega.{arith}
 use borrow.Author.Tests.{le-leb, lt-leb, leb-true, lt-ltb, le-ltb, ltb-true, ne_eqb, eqb-true, eqb-false}
@@ -15,7 +15,7 @@ use Rattle.meaning.specs.Number.{number_bytes, text_bytes}
 use Rattle.parse.specs.declared.types.RefSpec.{RefSpec}
 use Rattle.std.specs.Prelude.{Result, Ok, Err}
 use Rattle.refusal.specs.declared.Refusal.{Refusal}
-use Rattle.refusal.specs.Numbers.{number_of}
+use Rattle.refusal.specs.Numbers.{number_of, number_or0}
 use Rattle.refusal.proofs.Numbers.{number_of-positive}
 use Rattle.parse.specs.Places.{parsed}
 use Rattle.parse.proofs.Answers.{refused-number, accepted-number}
@@ -44,12 +44,12 @@ module _ (count size : ℕ) (t : Text) where
 
   module _ (few : count < spec_count) (p : Result RefSpec Refusal) (ep : p ≡ parsed 0 t) where
     -- its own questions refuse it
-    pub spec-turned : (q : Refusal) (n : ℕ) → p ≡ Err q → n ≡ number_of q → n ≡ spec_reason count size t
+    pub spec-turned : (q : Refusal) → p ≡ Err q → number_of q ≡ spec_reason count size t
     unfolding spec_reason
-    spec-turned q n e en = rw (lt-ltb count spec_count few, refused-number 0 t p ep q e, ne_eqb (number_of q) 0 (λ z. omega (arith, number_of-positive q))) en
+    spec-turned q e = rw (lt-ltb count spec_count few, refused-number 0 t p ep q e, ne_eqb (number_of q) 0 (λ z. omega (arith, number_of-positive q)))
 
     -- they accept it
-    pub spec-asked : (r : RefSpec) → p ≡ Ok r → (q : ℕ) → q ≡ room_reason spec_list_bytes size t → q ≡ spec_reason count size t
+    pub spec-asked : (r : RefSpec) → p ≡ Ok r → (q : Result (Unit {0}) Refusal) → number_or0 q ≡ room_reason spec_list_bytes size t → number_or0 q ≡ spec_reason count size t
     unfolding spec_reason
     spec-asked r e q f = rw (lt-ltb count spec_count few, accepted-number 0 t p ep r e) f
 
@@ -61,7 +61,7 @@ module _ (count size : ℕ) (t : Text) where
   unfolding name_reason
   name-long h l = rw (lt-ltb count item_count h, lt-leb (length t) name_bytes l)
 
-  pub name-asked : count < item_count → length t ≤ name_bytes → (q : ℕ) → q ≡ room_reason item_list_bytes size t → q ≡ name_reason count size t
+  pub name-asked : count < item_count → length t ≤ name_bytes → (q : Result (Unit {0}) Refusal) → number_or0 q ≡ room_reason item_list_bytes size t → number_or0 q ≡ name_reason count size t
   unfolding name_reason
   name-asked h l q f = rw (lt-ltb count item_count h, le-leb (length t) name_bytes l) f
 

@@ -1,6 +1,6 @@
 -- The lines of a text, and what a line holds.
 use Rattle.std.specs.Prelude.{ℕ, ◌+◌, ◌-◌, ◌<◌, ◌≤◌, ◌≡◌, Bool, cond, List, [], ◌∷◌, eqb, length, take, drop}
-use Rattle.meaning.specs.Bytes.{Text, bytes, byte, tab, line_feed, ◌and◌, ◌or◌, every, begins}
+use Rattle.meaning.specs.Bytes.{Text, bytes, byte, tab, line_feed, ◌and◌, ◌or◌, every, begins, numbered_from}
 use Rattle.text_lists.specs.declared.line.Line.{Line}
 use Rattle.text_lists.specs.declared.line.Line.TheVariants.{Nothing, Fetch, Push, Name, Shown, Marked, Unknown}
 
@@ -20,6 +20,10 @@ lines_of [] = []
 lines_of (x ∷ s) =
     cond (eqb line_feed x) ([] ∷ lines_of s)
     (cond (eqb carriage_return x and begins (line_feed ∷ []) s) (lines_of s) (before_first x (lines_of s)))
+
+-- the lines of what is left of a text after so many, each with its number
+abbrev pub lines_left : ℕ → Text → List (ℕ × Text)
+lines_left passed rest = numbered_from (passed + 1) (lines_of rest)
 
 -- a line of s from a place on: where its text ends, and where the next line begins
 pub record LineAt (s : Text) (at end next : ℕ) : Type 0 where

@@ -4,174 +4,140 @@
 ghost use Rattle.std.specs.Prelude.{◌≡◌, ◌+◌, ◌≤◌, length, take};
 ghost use Rattle.meaning.specs.Limits.{spec_list_bytes, program_bytes, item_list_bytes};
 ghost use Rattle.meaning.specs.Number.{text_bytes};
-ghost use Rattle.buffer.specs.Splice.{splice};
+ghost use Rattle.refusal.specs.Numbers.{number_or0};
+ghost use Rattle.buffer.specs.Splice.{RoomFor, Puts};
 ghost use Rattle.text_lists.specs.Line.{held_in};
 ghost use Rattle.text_lists.specs.Gather.{room_reason, spec_reason, name_reason, fault_reason, gathered};
-ghost use Rattle.text_lists.specs.Growing.{stopped, Room, SpecAdds, NameAdds, ShownAdds, LineAdds, Gathers};
+ghost use Rattle.text_lists.specs.Reasons.{reason_number};
+ghost use Rattle.text_lists.specs.Growing.{Room, SpecAdds, NameAdds, ShownAdds, LineAdds, Gathers};
 
 use limits::{ITEM_COUNT, ITEM_LIST_BYTES, NAME_BYTES, PROGRAM_BYTES, SPEC_COUNT, SPEC_LIST_BYTES};
-use percent::{Measured, decode};
+use percent::decode;
+use refusal::Refusal;
 
 pub mod line;
+pub mod reason;
 
-use line::{Line, classify, next_line};
+use line::{Line, Lines, classify};
+use reason::Reason;
 
-// Reasons of our own: only a fetch is listed; a line is none of the known kinds; it begins with a byte order mark; a shown name has no `=`
-// before it, a `%` without two digits, or a byte that no listing prints.
-pub const PUSH: u64 = 101;
-
-pub const UNKNOWN: u64 = 102;
-
-pub const MARKED: u64 = 103;
-
-pub const UNSIGNED: u64 = 104;
-
-pub const MALFORMED: u64 = 105;
-
-pub const UNPRINTED: u64 = 106;
-
-// What the lines gave: the number of the first line that is refused, counting from 1, the reason, and where its text starts and ends, or 0
-// for each; and how many bytes the spec list and the item list have.
+// A line that is refused: its number, counting from 1, its text, and why.
 #[derive(Clone, Copy)]
-pub struct Gathered {
-    pub line: usize,
-    pub reason: u64,
-    pub start: usize,
-    pub end: usize,
-    pub specs: usize,
-    pub items: usize,
+pub struct RefusedLine<'a> {
+    pub number: usize,
+    pub text: &'a [u8],
+    pub reason: Reason,
 }
 
-// The two lists so far: the reason to refuse the last line, or 0; how many specs there are, and how many bytes their list has; the same
-// of the names.
+// What the lines gave: how many bytes the spec list and the item list have, and the first line that is refused, if one is.
+#[derive(Clone, Copy)]
+pub struct Gathered<'a> {
+    pub specs: usize,
+    pub items: usize,
+    pub refused: Option<RefusedLine<'a>>,
+}
+
+// The two lists so far: how many specs there are, and how many bytes their list has; the same of the names.
 #[derive(Clone, Copy)]
 struct Lists {
-    reason: u64,
     specs: usize,
     specs_size: usize,
     names: usize,
     names_size: usize,
 }
 
-// 12 where a list of `size` bytes, of which it may have `limit`, has no room for a text.
-fn room_reason(limit: usize, size: usize, t: &[u8]) -> u64
+// A list of `size` bytes, of which it may have `limit`, has room for a text.
+fn ask_room(limit: usize, size: usize, t: &[u8]) -> Result<(), Refusal>
     requires { (size ≤ limit) × (length t.now ≤ program_bytes) }
-    ensures { result ≡ room_reason limit size t.now }
+    ensures { number_or0 result ≡ room_reason limit size t.now }
 {
     let n = t.len();
     if limit - size < number::size(n) + n {
-        return 12;
+        return Err(Refusal::ListTooLong);
     }
-    0
+    Ok(())
 }
 
-// Why a spec is refused that so many come before, in a list of `size` bytes, or 0.
-fn spec_reason(count: usize, size: usize, t: &[u8]) -> u64
+// A spec may follow so many others, in a list of `size` bytes.
+fn ask_spec(count: usize, size: usize, t: &[u8]) -> Result<(), Refusal>
     requires { (size ≤ spec_list_bytes) × (length t.now ≤ program_bytes) }
-    ensures { result ≡ spec_reason count size t.now }
+    ensures { number_or0 result ≡ spec_reason count size t.now }
 {
     if SPEC_COUNT <= count {
-        return 14;
+        return Err(Refusal::TooManyRecords);
     }
-    match parse::parse(0, t) {
-        Ok(_) => room_reason(SPEC_LIST_BYTES, size, t),
-        Err(q) => q.number(),
-    }
+    parse::parse(0, t)?;
+    ask_room(SPEC_LIST_BYTES, size, t)
 }
 
-// Why a name is refused that so many come before, in a list of `size` bytes, or 0.
-fn name_reason(count: usize, size: usize, t: &[u8]) -> u64
+// A name may follow so many others, in a list of `size` bytes.
+fn ask_name(count: usize, size: usize, t: &[u8]) -> Result<(), Refusal>
     requires { (size ≤ item_list_bytes) × (length t.now ≤ program_bytes) }
-    ensures { result ≡ name_reason count size t.now }
+    ensures { number_or0 result ≡ name_reason count size t.now }
 {
     if ITEM_COUNT <= count {
-        return 14;
+        return Err(Refusal::TooManyRecords);
     }
     if NAME_BYTES < t.len() {
-        return 15;
+        return Err(Refusal::NameTooLong);
     }
-    room_reason(ITEM_LIST_BYTES, size, t)
+    ask_room(ITEM_LIST_BYTES, size, t)
 }
 
 // Writes a text with its length before it, and answers the place after it.
 fn put_text(out: &mut [u8], at: usize, t: &[u8]) -> usize
-    requires { (at + length (text_bytes t.now) ≤ length out.old) × (length t.now ≤ program_bytes) }
-    ensures { (out.new ≡ splice out.old at (text_bytes t.now)) × (result ≡ at + length (text_bytes t.now)) }
+    requires { RoomFor out.old at (text_bytes t.now) × (length t.now ≤ program_bytes) }
+    ensures { Puts out.old at (text_bytes t.now) out.new result }
 {
     let n = t.len();
     let i = number::put(out, at, n);
     buffer::put(out, i, t)
 }
 
-// Nothing is added, for a reason or for none.
-fn stopped(so: Lists, reason: u64) -> Lists
-    ensures { result ≡ stopped so reason }
-{
-    Lists {
-        reason,
-        specs: so.specs,
-        specs_size: so.specs_size,
-        names: so.names,
-        names_size: so.names_size,
-    }
-}
-
 // Adds a spec, unless it is refused.
-fn add_spec(t: &[u8], specs: &mut [u8], so: Lists) -> Lists
+// As it is: (d) `add_name` asks another question and lets another list grow; one function of both takes the question and two lists to tell apart.
+fn add_spec(t: &[u8], specs: &mut [u8], so: Lists) -> Result<Lists, Reason>
     requires { (length t.now ≤ program_bytes) × Room spec_list_bytes so.specs_size specs.old }
     ensures { SpecAdds t.now so result specs.old specs.new }
 {
-    let reason = spec_reason(so.specs, so.specs_size, t);
-    if reason != 0 {
-        return stopped(so, reason);
-    }
+    ask_spec(so.specs, so.specs_size, t)?;
     let end = put_text(specs, so.specs_size, t);
-    Lists {
-        reason: 0,
+    Ok(Lists {
         specs: so.specs + 1,
         specs_size: end,
-        names: so.names,
-        names_size: so.names_size,
-    }
+        ..so
+    })
 }
 
 // Adds a name, unless it is refused.
-fn add_name(t: &[u8], items: &mut [u8], so: Lists) -> Lists
+fn add_name(t: &[u8], items: &mut [u8], so: Lists) -> Result<Lists, Reason>
     requires { (length t.now ≤ program_bytes) × Room item_list_bytes so.names_size items.old }
     ensures { NameAdds t.now so result items.old items.new }
 {
-    let reason = name_reason(so.names, so.names_size, t);
-    if reason != 0 {
-        return stopped(so, reason);
-    }
+    ask_name(so.names, so.names_size, t)?;
     let end = put_text(items, so.names_size, t);
-    Lists {
-        reason: 0,
-        specs: so.specs,
-        specs_size: so.specs_size,
+    Ok(Lists {
         names: so.names + 1,
         names_size: end,
-    }
+        ..so
+    })
 }
 
 // Why a name as a listing shows it is refused that has a fault at a place.
-fn fault_reason(t: &[u8], at: usize) -> u64
-    ensures { result ≡ fault_reason t.now at }
+fn fault_reason(t: &[u8], at: usize) -> Reason
+    ensures { reason_number result ≡ fault_reason t.now at }
 {
     if at == 0 {
-        return UNSIGNED;
+        return Reason::Unsigned;
     }
-    if t.len() <= at {
-        return UNPRINTED;
+    match t.get(at) {
+        Some(b'%') => Reason::Malformed,
+        _ => Reason::Unprinted,
     }
-    if t[at] == b'%' {
-        return MALFORMED;
-    }
-    UNPRINTED
 }
 
 // Adds the name that the first n bytes of a buffer are, unless it is refused.
-fn add_first(buffer: &[u8], n: usize, items: &mut [u8], so: Lists) -> Lists
+fn add_first(buffer: &[u8], n: usize, items: &mut [u8], so: Lists) -> Result<Lists, Reason>
     requires { (n ≤ length buffer.now) × (length buffer.now ≤ program_bytes) × Room item_list_bytes so.names_size items.old }
     ensures { NameAdds (take n buffer.now) so result items.old items.new }
 {
@@ -179,70 +145,63 @@ fn add_first(buffer: &[u8], n: usize, items: &mut [u8], so: Lists) -> Lists
 }
 
 // Adds the name that a listing shows so, unless it is refused.
-fn add_shown(t: &[u8], items: &mut [u8], so: Lists) -> Lists
+fn add_shown(t: &[u8], items: &mut [u8], so: Lists) -> Result<Lists, Reason>
     requires { (length t.now ≤ program_bytes) × Room item_list_bytes so.names_size items.old }
     ensures { ShownAdds t.now so result items.old items.new }
 {
     let mut name = [0u8; PROGRAM_BYTES];
     match decode(t, &mut name) {
-        Measured::Size(n) => add_first(&name, n, items, so),
-        Measured::Fault(at) => stopped(so, fault_reason(t, at)),
+        Ok(n) => add_first(&name, n, items, so),
+        Err(fault) => Err(fault_reason(t, fault.at)),
     }
 }
 
 // Adds what a line holds, unless it is refused.
-fn add_line(line: &[u8], specs: &mut [u8], items: &mut [u8], so: Lists) -> Lists
+fn add_line(line: &[u8], specs: &mut [u8], items: &mut [u8], so: Lists) -> Result<Lists, Reason>
     requires { (length line.now ≤ program_bytes) × Room spec_list_bytes so.specs_size specs.old × Room item_list_bytes so.names_size items.old }
     ensures { LineAdds (held_in line.now) so result specs.old items.old specs.new items.new }
 {
     match classify(line) {
-        Line::Nothing => stopped(so, 0),
+        Line::Nothing => Ok(so),
         Line::Fetch(start) => add_spec(&line[start..], specs, so),
-        Line::Push(_) => stopped(so, PUSH),
+        Line::Push(_) => Err(Reason::Push),
         Line::Name(start) => add_name(&line[start..], items, so),
         Line::Shown(start) => add_shown(&line[start..], items, so),
-        Line::Marked => stopped(so, MARKED),
-        Line::Unknown => stopped(so, UNKNOWN),
+        Line::Marked => Err(Reason::Marked),
+        Line::Unknown => Err(Reason::Unknown),
     }
 }
 
 // The lists that the lines of a text give, written at the start of the buffers; where a line is refused, those of the lines before it.
-pub fn gather(input: &[u8], specs: &mut [u8], items: &mut [u8]) -> Gathered
+pub fn gather<'a>(input: &'a [u8], specs: &mut [u8], items: &mut [u8]) -> Gathered<'a>
     requires { (length input.now ≤ program_bytes) × (spec_list_bytes ≤ length specs.old) × (item_list_bytes ≤ length items.old) }
     ensures { Gathers input.now (gathered input.now) specs.old items.old specs.new items.new result }
 {
-    let mut at = 0;
-    let mut line = 1;
     let mut so = Lists {
-        reason: 0,
         specs: 0,
         specs_size: 0,
         names: 0,
         names_size: 0,
     };
-    while at < input.len() {
-        let extent = next_line(input, at);
-        let end = extent.end;
-        so = add_line(&input[at..end], specs, items, so);
-        if so.reason != 0 {
-            return Gathered {
-                line,
-                reason: so.reason,
-                start: at,
-                end,
-                specs: so.specs_size,
-                items: so.names_size,
-            };
+    for (number, text) in Lines::of(input) {
+        match add_line(text, specs, items, so) {
+            Ok(more) => so = more,
+            Err(reason) => {
+                return Gathered {
+                    specs: so.specs_size,
+                    items: so.names_size,
+                    refused: Some(RefusedLine {
+                        number,
+                        text,
+                        reason,
+                    }),
+                };
+            },
         }
-        at = extent.next;
-        line += 1;
     }
     Gathered {
-        line: 0,
-        reason: 0,
-        start: 0,
-        end: 0,
         specs: so.specs_size,
         items: so.names_size,
+        refused: None,
     }
 }

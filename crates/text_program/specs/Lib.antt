@@ -1,3 +1,2 @@
--- `Texts`: how long a text is that was read. `Output`: what is printed.
-pub mod Texts
+-- `Output`: what is printed.
 pub mod Output

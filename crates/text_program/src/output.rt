@@ -1,70 +1,47 @@
-// Printing on a program's output, as long as no write has failed: `whole` says that, and each function answers it anew.
-ghost use Rattle.std.specs.Prelude.{◌≡◌, ◌≤◌, ◌<◌, length, get_or, false};
-ghost use Rattle.refused_line.specs.Message.{numeral};
-ghost use Rattle.print.specs.Lines.{coded, printable};
-ghost use Rattle.text_program.specs.Output.{Says, PlainWithin, in_print, line_named};
+// Printing on a program's output, up to the first write that fails.
+ghost use Rattle.std.specs.Prelude.{◌≡◌, position};
+ghost use Rattle.print.specs.Lines.{coded};
+ghost use Rattle.stdio.specs.Streams.{Says};
+ghost use Rattle.text_program.specs.Output.{in_print, needs_code, line_named};
 
-use print::decimal::put_digits;
-use print::shown::{capital_digit, is_plain};
+use print::shown::is_plain;
+use std::io;
 use std::io::Write;
 use stdio::say;
 
-// Prints a number in decimal.
-fn say_number<W: Write>(to: &mut W, whole: bool, n: usize) -> bool
-    ensures { Says whole result (W.contents to.old) (W.contents to.new) (numeral n) }
+// The place of the first byte that is not printed as it is.
+fn first_coded(t: &[u8]) -> Option<usize>
+    ensures { result ≡ position needs_code t.now }
 {
-    let mut text = [0u8; 20];
-    let k = put_digits(&mut text, 0, 20, n);
-    say(to, whole, &text[..k])
-}
-
-// Where the bytes from a place on end that are printed as they are.
-fn plain_end(t: &[u8], from: usize) -> usize
-    requires { from ≤ length t.now }
-    ensures within { (from ≤ result) × (result ≤ length t.now) }
-    ensures plain { PlainWithin t.now from result }
-    ensures end { result < length t.now → printable (get_or t.now result 0) ≡ false }
-{
-    let mut i = from;
-    while i < t.len() {
-        if !is_plain(t[i]) {
-            return i;
-        }
-        i += 1;
-    }
-    i
+    t.iter().position(|b| !is_plain(*b))
 }
 
 // Prints one byte as `%` and two capital hexadecimal digits.
-fn say_coded<W: Write>(to: &mut W, whole: bool, b: u8) -> bool
-    ensures { Says whole result (W.contents to.old) (W.contents to.new) (coded b) }
+fn say_coded<W: Write>(to: &mut W, b: u8) -> io::Result<()>
+    ensures { Says result (W.contents to.old) (W.contents to.new) (coded b) }
 {
-    let three = [b'%', capital_digit(b / 16), capital_digit(b % 16)];
-    say(to, whole, &three)
+    write!(to, "%{b:02X}")
 }
 
 // Prints a text: bytes that are printed as they are in one go, and each other one in between.
-pub fn say_text<W: Write>(to: &mut W, whole: bool, t: &[u8]) -> bool
-    ensures { Says whole result (W.contents to.old) (W.contents to.new) (in_print t.now) }
+pub fn say_text<W: Write>(to: &mut W, t: &[u8]) -> io::Result<()>
+    ensures { Says result (W.contents to.old) (W.contents to.new) (in_print t.now) }
 {
-    let mut w = whole;
-    let mut i = 0;
-    while i < t.len() {
-        let end = plain_end(t, i);
-        w = say(to, w, &t[i..end]);
-        i = end;
-        if i < t.len() {
-            w = say_coded(to, w, t[i]);
-            i += 1;
-        }
+    let mut rest = t;
+    // As it is: (d) a step of the loop is what stands before a coded byte; `split` would pass over that byte, and `split_inclusive` leave
+    // it at the end.
+    while let Some(at) = first_coded(rest) {
+        let (plain, others) = rest.split_at(at);
+        say(to, plain)?;
+        say_coded(to, others[0])?;
+        rest = &others[1..];
     }
-    w
+    say(to, rest)
 }
 
 // Names a line by its number.
-pub fn say_line<W: Write>(to: &mut W, whole: bool, number: usize) -> bool
-    ensures { Says whole result (W.contents to.old) (W.contents to.new) (line_named number) }
+pub fn say_line<W: Write>(to: &mut W, number: usize) -> io::Result<()>
+    ensures { Says result (W.contents to.old) (W.contents to.new) (line_named number) }
 {
-    let w = say(to, whole, b"line ");
-    say_number(to, w, number)
+    write!(to, "line {number}")
 }

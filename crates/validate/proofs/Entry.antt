@@ -15,14 +15,16 @@ use Rattle.meaning.specs.Entries.{verdict_on, verdict_bytes, validated}
 use Rattle.promises.proofs.Buffers.{meets-two-refused, meets-two-short-first, meets-two-short-second, meets-two-conflicts, meets-two-passes}
 use Rattle.buffer.specs.Splice.{splice}
 use Rattle.buffer.proofs.Splices.{splice-start}
-use Rattle.list.specs.declared.items.Checked.{Checked}
-use Rattle.list.specs.Checked.{checked}
+use Rattle.std.specs.Prelude.{Result, Ok, Err}
+use Rattle.refusal.specs.Numbers.{number_of}
+use Rattle.list.specs.declared.refused.Refused.{Refused}
+use Rattle.list.specs.Checked.{numbers_of, checked}
 use Rattle.list.proofs.Told.{Passed, specs-passed, specs-failed, rows-passed, rows-failed}
 use Rattle.row_list.specs.Lists.{rows_in, RowsRead}
 use Rattle.conflicts.specs.ConflictBytes.{conflicts_bytes, put_if_room}
 use Rattle.conflicts.proofs.Wholes.{no_bytes, none-put, short-left, whole-put, bytes-exactly}
 use Rattle.validate.specs.declared.Validation.{Validation}
-use Rattle.validate.specs.Answers.{validation_refused, short_of}
+use Rattle.validate.specs.Answers.{nothing_told, validation_refused, short_of}
 
 -- rows that were judged by the size of their conflicts
 module _ (rows : List Row) (size : ℕ) (es : size ≡ length (conflicts_bytes rows)) where
@@ -48,10 +50,10 @@ module _ (rows : List Row) (size : ℕ) (es : size ≡ length (conflicts_bytes r
           let q : o ≡ d = eo ∙ sym (short-left rows size es d h) in
           rw (q, e) (meets-two-short-first (accepted (verdict_bytes (verdict rows))) d f d f (conflicts_bytes rows) none 17 0 0 size 0 1 (ap accepted conflicting-bytes) (omega (arith, es)) refl refl refl refl refl es refl refl)
 
-      pub conflicts-told : size ≤ length d → MeetsTwo (accepted (verdict_bytes (verdict rows))) d f o f 0 0 1 size 0 0
-      conflicts-told h =
+      pub conflicts-told : size ≤ length d → (n : Validation) → n ≡ nothing_told → MeetsTwo (accepted (verdict_bytes (verdict rows))) d f o f n.refusal n.«record» 1 size n.fixes_length n.buffer
+      conflicts-told h n e =
           let q : o ≡ splice d 0 (conflicts_bytes rows) = eo ∙ sym (whole-put rows size es d h (splice d 0 (conflicts_bytes rows)) refl) in
-          meets-two-conflicts (accepted (verdict_bytes (verdict rows))) d f o f (conflicts_bytes rows) 0 0 1 size 0 0 (ap accepted conflicting-bytes) (omega (arith, es)) (q ∙ splice-start d (conflicts_bytes rows)) refl refl refl refl es refl refl
+          rw e (meets-two-conflicts (accepted (verdict_bytes (verdict rows))) d f o f (conflicts_bytes rows) 0 0 1 size 0 0 (ap accepted conflicting-bytes) (omega (arith, es)) (q ∙ splice-start d (conflicts_bytes rows)) refl refl refl refl es refl refl)
 
 -- rows without conflicts
 module _ (rows : List Row) (calm : conflicts rows ≡ []) where
@@ -69,10 +71,10 @@ module _ (rows : List Row) (calm : conflicts rows ≡ []) where
       fixes-short g w e =
           rw e (meets-two-short-second (accepted (verdict_bytes (verdict rows))) d f d f (row_list_of (keep is_kept rows)) (each (each rows fix_of) fix_bytes) 17 0 0 fixed 0 2 (ap accepted passing-bytes) (omega (arith, ek)) (omega (arith, ef)) refl refl refl refl refl ef refl refl)
 
-    pub passes-told : length (row_list_of (keep is_kept rows)) ≤ length d → length (each (each rows fix_of) fix_bytes) ≤ length f → (o p : Text) → o ≡ splice d 0 (row_list_of (keep is_kept rows)) → p ≡ splice f 0 (each (each rows fix_of) fix_bytes) → MeetsTwo (accepted (verdict_bytes (verdict rows))) d f o p 0 0 0 kept fixed 0
-    passes-told h g o p eo ep =
-        meets-two-passes (accepted (verdict_bytes (verdict rows))) d f o p (row_list_of (keep is_kept rows)) (each (each rows fix_of) fix_bytes) 0 0 0 kept fixed 0 (ap accepted passing-bytes) h g
-        (eo ∙ splice-start d (row_list_of (keep is_kept rows))) (ep ∙ splice-start f (each (each rows fix_of) fix_bytes)) refl refl refl ek ef refl
+    pub passes-told : length (row_list_of (keep is_kept rows)) ≤ length d → length (each (each rows fix_of) fix_bytes) ≤ length f → (o p : Text) → o ≡ splice d 0 (row_list_of (keep is_kept rows)) → p ≡ splice f 0 (each (each rows fix_of) fix_bytes) → (n : Validation) → n ≡ nothing_told → MeetsTwo (accepted (verdict_bytes (verdict rows))) d f o p n.refusal n.«record» n.conflicts kept fixed n.buffer
+    passes-told h g o p eo ep n e =
+        rw e (meets-two-passes (accepted (verdict_bytes (verdict rows))) d f o p (row_list_of (keep is_kept rows)) (each (each rows fix_of) fix_bytes) 0 0 0 kept fixed 0 (ap accepted passing-bytes) h g
+        (eo ∙ splice-start d (row_list_of (keep is_kept rows))) (ep ∙ splice-start f (each (each rows fix_of) fix_bytes)) refl refl refl ek ef refl)
 
 -- what the lists are read as
 specs-turned : (op : ℕ) (specs rows : Text) (n : ℕ) (r : Option ℕ) → read_specs op specs ≡ refused n r → validated op specs rows ≡ refused n r
@@ -87,33 +89,34 @@ both_read : (op : ℕ) (specs rows : Text) (group : List Spec) (list : List Row)
 unfolding validated verdict_on
 both_read op specs rows group list e f = rw (e, f)
 
-module _ (op : ℕ) (specs rows d f : Text) (g : Checked) (eg : g ≡ checked (read_specs op specs)) where
-  pub specs-refused : (g.refusal ≡ 0 → ⊥) → (w : Validation) → w ≡ validation_refused g.refusal g.«record» → MeetsTwo (validated op specs rows) d f d f w.refusal w.«record» w.conflicts w.length w.fixes_length w.buffer
-  specs-refused z w e =
-      let q = specs-failed op specs g eg z in
-      rw e (meets-two-refused (validated op specs rows) d f d f g.refusal q.carried g.refusal g.«record» 0 0 0 0 (specs-turned op specs rows g.refusal q.carried q.answer) refl refl refl q.number refl refl refl refl)
+module _ (op : ℕ) (specs rows d f : Text) (g : Result ℕ Refused) (eg : numbers_of g ≡ checked (read_specs op specs)) where
+  pub specs-refused : (x : Refused) → g ≡ Err x → (w : Validation) → w ≡ validation_refused x → MeetsTwo (validated op specs rows) d f d f w.refusal w.«record» w.conflicts w.length w.fixes_length w.buffer
+  specs-refused x z w e =
+      let q = specs-failed op specs g eg x z in
+      rw e (meets-two-refused (validated op specs rows) d f d f (number_of x.refusal) q.carried (number_of x.refusal) x.«record» 0 0 0 0 (specs-turned op specs rows (number_of x.refusal) q.carried q.answer) refl refl refl q.number refl refl refl refl)
 
-  module _ (zg : g.refusal ≡ 0) (c : Checked) (ec : c ≡ checked (read_rows g.count rows)) where
-    specs-read : Passed (read_specs op specs) g.count
-    specs-read = specs-passed op specs g eg zg
+  module _ (n : ℕ) (zg : g ≡ Ok n) (c : Result ℕ Refused) (ec : numbers_of c ≡ checked (read_rows n rows)) where
+    specs-read : Passed (read_specs op specs) n
+    specs-read = specs-passed op specs g eg n zg
 
-    pub rows-refused : (c.refusal ≡ 0 → ⊥) → (w : Validation) → w ≡ validation_refused c.refusal c.«record» → MeetsTwo (validated op specs rows) d f d f w.refusal w.«record» w.conflicts w.length w.fixes_length w.buffer
-    rows-refused z w e =
-        let q = rows-failed g.count rows c ec z in
-        let a : read_rows (length specs-read.members) rows ≡ refused c.refusal q.carried = rw (← specs-read.counted) q.answer in
+    pub rows-refused : (x : Refused) → c ≡ Err x → (w : Validation) → w ≡ validation_refused x → MeetsTwo (validated op specs rows) d f d f w.refusal w.«record» w.conflicts w.length w.fixes_length w.buffer
+    rows-refused x z w e =
+        let q = rows-failed n rows c ec x z in
+        let a : read_rows (length specs-read.members) rows ≡ refused (number_of x.refusal) q.carried = rw (← specs-read.counted) q.answer in
         rw e
-        (meets-two-refused (validated op specs rows) d f d f c.refusal q.carried c.refusal c.«record» 0 0 0 0
-        (rows-turned op specs rows specs-read.members c.refusal q.carried specs-read.answer a) refl refl refl q.number refl refl refl refl)
+        (meets-two-refused (validated op specs rows) d f d f (number_of x.refusal) q.carried (number_of x.refusal) x.«record» 0 0 0 0
+        (rows-turned op specs rows specs-read.members (number_of x.refusal) q.carried specs-read.answer a) refl refl refl q.number refl refl refl refl)
 
-    pub rows-judged : c.refusal ≡ 0 → (o p : Text) (w t m u v b : ℕ) → MeetsTwo (accepted (verdict_bytes (verdict (rows_in g.count rows)))) d f o p w t m u v b → MeetsTwo (validated op specs rows) d f o p w t m u v b
-    rows-judged z o p w t m u v b k =
-        let q = rows-passed g.count rows c ec z in
+    pub rows-judged : (k : ℕ) → c ≡ Ok k → (o p : Text) (w t m u v b : ℕ) → MeetsTwo (accepted (verdict_bytes (verdict (rows_in n rows)))) d f o p w t m u v b → MeetsTwo (validated op specs rows) d f o p w t m u v b
+    rows-judged i z o p w t m u v b k =
+        let q = rows-passed n rows c ec i z in
         let a : read_rows (length specs-read.members) rows ≡ accepted q.members = rw (← specs-read.counted) q.answer in
-        let r : rows_in g.count rows ≡ q.members = rw q.answer in
+        let r : rows_in n rows ≡ q.members = rw q.answer in
         rw (both_read op specs rows specs-read.members q.members specs-read.answer a, ← r) k
 
-pub rows-counted : (n : ℕ) (rows : Text) (c : Checked) → c ≡ checked (read_rows n rows) → c.refusal ≡ 0 → c.count ≡ length (rows_in n rows)
-rows-counted n rows c e z = let q = rows-passed n rows c e z in q.counted ∙ rw q.answer
+module _ (n : ℕ) (rows : Text) (c : Result ℕ Refused) (e : numbers_of c ≡ checked (read_rows n rows)) (k : ℕ) (z : c ≡ Ok k) where
+  pub rows-counted : k ≡ length (rows_in n rows)
+  rows-counted = let q = rows-passed n rows c e k z in q.counted ∙ rw q.answer
 
-pub rows-read : (n : ℕ) (rows : Text) (c : Checked) → c ≡ checked (read_rows n rows) → c.refusal ≡ 0 → RowsRead n rows
-rows-read n rows c e z = let q = rows-passed n rows c e z in record { list = q.members; reads = q.answer }
+  pub rows-read : RowsRead n rows
+  rows-read = let q = rows-passed n rows c e k z in record { list = q.members; reads = q.answer }

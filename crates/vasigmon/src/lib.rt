@@ -1,5 +1,6 @@
 // The C interface: include/vasigmon.h declares what stands here. Each entry hands its arguments to the function behind it and gives the
 // answer as plain numbers; no entry asks anything of its caller.
+// As it is: (a) an operation is the C interface's number; `parse` and `spec_list` ask question 18 of it, and here it is handed on.
 #![tactic(auto)]
 
 ghost use Rattle.std.specs.Prelude.{◌≡◌};

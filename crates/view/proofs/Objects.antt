@@ -3,7 +3,7 @@ use mathlib.Core.Path.{◌≡◌, refl, sym, ap, ◌∙◌}
 use mathlib.Core.Bool.{Bool, true, false, not, cond, false≢true}
 use mathlib.Core.List.{[], ◌∷◌}
 use mathlib.Core.Option.{Option, none, some}
-use Prim.Native.Nat.{ℕ, zero, suc, ◌+◌, ◌-◌, ◌≤◌}
+use Prim.Native.Nat.{ℕ, zero, suc, ◌+◌, ◌≤◌}
 use native.Mathlib.Omega.{arith}
 use borrow.Author.Tests.{eqb-true, le-leb}
 use lib.Dec.{eqb, leb}
@@ -24,37 +24,20 @@ use Rattle.parse.specs.declared.types.RefSpec.{RefSpec}
 use Rattle.std.specs.Prelude.{Result, Ok, Err}
 use Rattle.refusal.specs.declared.Refusal.{Refusal}
 use Rattle.parse.specs.Places.{part_at, side_meant, Within, spec_meant, sign_length, supplied_place, named_place, source_place, places_at, places_of, parsed}
-use Rattle.parse.proofs.Parts.{part_length, part_of, part-within}
+use Rattle.parse.proofs.Parts.{part_length, part-within}
 use Rattle.parse.proofs.Answers.{read-refused, read-accepted, read-places, read-within}
-use Rattle.view.specs.declared.Extent.{Extent}
+use Rattle.list.specs.declared.stretch.Stretch.{Stretch}
 use Rattle.view.specs.declared.Part as parts
-use Rattle.view.specs.Places.{text_at, refused_part, accepted_part, digits_at, object_text, side_digits, object_read, spec_digits}
-
--- the answers of `digits`
-module _ (specs : Text) (start at n : ℕ) (h : start + at + n ≤ length specs) (b : Bool) (e : b ≡ object_id (take (start + at + n - (start + at)) (drop (start + at) specs))) where
-  digits-test : object_id (part_at specs (start + at) n) ≡ b
-  digits-test = sym (e ∙ ap object_id (part_of specs (start + at) n))
-
-  pub digits-there : (r : parts.Part) → b ≡ true → r ≡ accepted_part 1 (start + at) n → r ≡ digits_at (start + at) (object_text (part_at specs (start + at) n))
-  digits-there r y is = is ∙ rw (digits-test ∙ y, part_length specs (start + at) n h)
-
-  pub digits-none : (r : parts.Part) → b ≡ false → r ≡ refused_part 16 0 → r ≡ digits_at (start + at) (object_text (part_at specs (start + at) n))
-  digits-none r y is = is ∙ rw (digits-test ∙ y)
+use Rattle.view.specs.Places.{text_at, refused_part, digits_at, object_text, side_digits, object_read, spec_digits}
 
 -- the answers of `side_digits`
-module _ (specs : Text) (start : ℕ) (src : Side) (r : parts.Part) where
-  pub side-absent : src ≡ Absent → r ≡ refused_part 16 0 → r ≡ side_digits specs start src
-  side-absent is e = e ∙ rw is
-
-  pub side-part : (at n : ℕ) → src ≡ Part at n → r ≡ digits_at (start + at) (object_text (part_at specs (start + at) n)) → r ≡ side_digits specs start src
-  side-part at n is e = e ∙ rw is
+module _ (specs : Text) (start : ℕ) (src : Side) where
+  pub side-part : (r : parts.Part) (at n : ℕ) → src ≡ Part at n → r ≡ digits_at (start + at) (object_text (part_at specs (start + at) n)) → r ≡ side_digits specs start src
+  side-part r at n is e = e ∙ rw is
 
   -- the digits stand within the list
   pub side-room : (len at n : ℕ) → start + len ≤ length specs → Within len src → src ≡ Part at n → start + at + n ≤ length specs
   side-room len at n h w is = omega (arith, part-within src at n is len w)
-
-  pub side-head : src ≡ Head → r ≡ refused_part 16 0 → r ≡ side_digits specs start src
-  side-head is e = e ∙ rw is
 
 -- an object id as a source
 
@@ -185,24 +168,24 @@ module _ (op : ℕ) (t : Text) (r : RefSpec) (e : parsed op t ≡ Ok r) where
           ap (λ (m : ℕ). digits_at (start + m) (object_text (part_at specs (start + at) n))) (sign-place at n s) ∙ ap (λ (x : Text). digits_at (start + sign_length (mode_of t)) (object_text x)) (sym p) ∙ ap (digits_at (start + sign_length (mode_of t))) (sym q)
 
 -- the answers of `object_part`
-module _ (op : ℕ) (specs : Text) (e : Extent) (h : e.start + e.len ≤ length specs) (p : Result RefSpec Refusal) (is : p ≡ parsed op (take (e.start + e.len - e.start) (drop e.start specs))) where
+module _ (op : ℕ) (specs : Text) (e : Stretch) (h : e.at + e.len ≤ length specs) (p : Result RefSpec Refusal) (t : Text) (et : t ≡ part_at specs e.at e.len) (is : p ≡ parsed op t) where
   text-is : p ≡ parsed op (text_at specs e)
-  text-is = is ∙ ap (parsed op) (part_of specs e.start e.len)
+  text-is = is ∙ ap (parsed op) et
 
   module _ (r : RefSpec) (s : p ≡ Ok r) where
     -- the source stands within its spec
     pub object-within : Within e.len r.src
-    object-within = let w = (read-within op (text_at specs e) p text-is r s).src-within in rw (part_length specs e.start e.len h) at w
+    object-within = let w = (read-within op (text_at specs e) p text-is r s).src-within in rw (part_length specs e.at e.len h) at w
 
-    pub object-read : (x : Extent) → e ≡ x → (q : parts.Part) → q ≡ side_digits specs e.start r.src → q ≡ spec_digits op specs x
+    pub object-read : (x : Stretch) → e ≡ x → (q : parts.Part) → q ≡ side_digits specs e.at r.src → q ≡ spec_digits op specs x
     unfolding spec_digits
     object-read x a q b =
         let f : parsed op (text_at specs e) ≡ Ok r = sym text-is ∙ s in
         let d : object_read (read_spec op (text_at specs e)) ≡ object_source (spec_meant (text_at specs e) r) = ap object_read (read_as op (text_at specs e) r f) in
-        rw (← a) (b ∙ side-is op (text_at specs e) r f specs e.start e.len refl h ∙ ap (digits_at (e.start + sign_length (mode_of (text_at specs e)))) (sym d))
+        rw (← a) (b ∙ side-is op (text_at specs e) r f specs e.at e.len refl h ∙ ap (digits_at (e.at + sign_length (mode_of (text_at specs e)))) (sym d))
 
-  pub object-refused : (n : Refusal) → p ≡ Err n → (x : Extent) → e ≡ x → (q : parts.Part) → q ≡ refused_part 16 0 → q ≡ spec_digits op specs x
+  pub object-refused : (n : Refusal) → p ≡ Err n → (x : Stretch) → e ≡ x → refused_part 16 0 ≡ spec_digits op specs x
   unfolding spec_digits
-  object-refused n s x a q b =
+  object-refused n s x a =
       let d : object_read (read_spec op (text_at specs e)) ≡ none = ap object_read (read-refused op (text_at specs e) p text-is n s) in
-      rw (← a) (b ∙ ap (digits_at (e.start + sign_length (mode_of (text_at specs e)))) (sym d))
+      rw (← a) (ap (digits_at (e.at + sign_length (mode_of (text_at specs e)))) (sym d))

@@ -1,6 +1,6 @@
 -- The bytes of a part: out of which list they are, and that they stand in it. Assumes nothing.
 use mathlib.Core.Path.{◌≡◌, refl, sym, ap, ◌∙◌}
-use mathlib.Core.List.{List, []}
+use mathlib.Core.List.{List}
 use mathlib.Core.Option.{Option, none, some}
 use Prim.Native.Nat.{ℕ, zero, suc, ◌+◌, ◌-◌, ◌≤◌}
 use native.Mathlib.Omega.{arith}
@@ -78,14 +78,6 @@ module _ (op : ℕ) (specs items : Text) (field spec : ℕ) (p : Part) (is : p �
 
   pub view-record : p.«record» ≡ (meaning.view_numbers (meaning.source_view op specs items field spec)).record_number
   view-record = ap (λ (x : Part). x.«record») is
-
-  -- a refused view has no bytes
-  pub view-none : (r : Text) → (p.refusal ≡ 0 → ⊥) → r ≡ [] → r ≡ meaning.view_text (meaning.source_view op specs items field spec) specs items
-  view-none r z e = e ∙ go (meaning.source_view op specs items field spec) is
-    where
-      go : (a : Answer meaning.Part) → p ≡ part_of a → [] ≡ meaning.view_text a specs items
-      go (refused n k) q = refl
-      go (accepted q) f = absurd (z (ap (λ (x : Part). x.refusal) f))
 
   -- the list that the field chooses, and what stands in it
   module _ (which : meaning.Lent) (c : chosen field ≡ which) where

@@ -16,8 +16,11 @@ use Rattle.promises.proofs.Splitting.{unsigned-length, unsigned-append}
 use Rattle.promises.proofs.Viewing.{object-length, digits-begin}
 use Rattle.parse.specs.Places.{sign_length}
 use Rattle.parse.proofs.Places.{unsigned-drop, sign-within}
-use Rattle.list.specs.declared.items.Checked.{Checked}
-use Rattle.list.specs.Checked.{checked}
+use Rattle.std.specs.Prelude.{Result, Ok, Err}
+use Rattle.refusal.specs.Numbers.{number_of}
+use Rattle.list.specs.declared.refused.Refused.{Refused}
+use Rattle.list.specs.declared.stretch.Stretch.{Stretch}
+use Rattle.list.specs.Checked.{numbers_of, checked}
 use Rattle.list.proofs.Told.{Passed, Failed, specs-passed, specs-failed, items-passed, items-failed}
 use Rattle.view.specs.declared.Part.{Part}
 use Rattle.view.specs.Places.{after_records, extent_at, part_of, refused_part, accepted_part, digits_at, spec_digits}
@@ -29,7 +32,7 @@ refused-is : {A : Type 0} (a : Answer A) (n k : ℕ) (f : Failed a n k) → refu
 refused-is a n k f = ap (refused_part n) f.number
 
 -- an item's part is the extent of its record
-item-is : (items : Text) (j : ℕ) (t rest : Text) → read_text (after_records j items) ≡ took t rest → accepted_part 0 (extent_at items j).start (extent_at items j).len ≡ part_of (meaning.item_part items j (some t))
+item-is : (items : Text) (j : ℕ) (t rest : Text) → read_text (after_records j items) ≡ took t rest → accepted_part 0 (extent_at items j).at (extent_at items j).len ≡ part_of (meaning.item_part items j (some t))
 unfolding extent_at
 item-is items j t rest e =
     let n : length items - length rest - length t ≡ length items - length (t ++ rest) = omega (arith, length-append t rest) in
@@ -43,7 +46,7 @@ unsigned-more (x ∷ t) rest h =
     omega (arith, ap length (unsigned-append x t rest), length-append (unsigned (x ∷ t)) rest, sign-within (x ∷ t))
 
 -- the digits of record i begin where its text without its sign does
-spec-begins : (op : ℕ) (specs : Text) (i : ℕ) (t rest : Text) (s : Spec) (d : Text) → read_text (after_records i specs) ≡ took t rest → read_spec op t ≡ accepted s → object_source s ≡ some d → (extent_at specs i).start + sign_length (mode_of t) ≡ length specs - length (unsigned (meaning.from_record i specs))
+spec-begins : (op : ℕ) (specs : Text) (i : ℕ) (t rest : Text) (s : Spec) (d : Text) → read_text (after_records i specs) ≡ took t rest → read_spec op t ≡ accepted s → object_source s ≡ some d → (extent_at specs i).at + sign_length (mode_of t) ≡ length specs - length (unsigned (meaning.from_record i specs))
 unfolding extent_at
 spec-begins op specs i t rest s d e f q =
     let b = digits-begin op t s d f q in
@@ -57,7 +60,7 @@ unfolding spec_digits
 digits-is op specs i t rest s e f =
     rw (extent-text specs i t rest e, f) (go (object_source s) refl)
   where
-    go : (o : Option Text) → object_source s ≡ o → digits_at ((extent_at specs i).start + sign_length (mode_of t)) o ≡ part_of (meaning.digits_part specs i o)
+    go : (o : Option Text) → object_source s ≡ o → digits_at ((extent_at specs i).at + sign_length (mode_of t)) o ≡ part_of (meaning.digits_part specs i o)
     go none q = refl
     go (some d) q = ap (λ (m : ℕ). accepted_part 1 m (length d)) (spec-begins op specs i t rest s d e f q)
 
@@ -76,26 +79,26 @@ unfolding meaning.source_view
 both_read op specs items field spec group names e f = rw (e, f)
 
 -- the answers
-module _ (op : ℕ) (specs items : Text) (field spec : ℕ) (g : Checked) (gs : g ≡ checked (read_specs op specs)) where
+module _ (op : ℕ) (specs items : Text) (field spec : ℕ) (g : Result ℕ Refused) (gs : numbers_of g ≡ checked (read_specs op specs)) where
   -- the spec list is refused
-  pub source-specs : (r : Part) → (g.refusal ≡ 0 → ⊥) → r ≡ refused_part g.refusal g.«record» → r ≡ part_of (meaning.source_view op specs items field spec)
-  source-specs r z e =
-      let f = specs-failed op specs g gs z in
-      e ∙ refused-is (read_specs op specs) g.refusal g.«record» f ∙ sym (ap part_of (specs-no op specs items field spec g.refusal f.carried f.answer))
+  pub source-specs : (x : Refused) → g ≡ Err x → refused_part (number_of x.refusal) x.«record» ≡ part_of (meaning.source_view op specs items field spec)
+  source-specs x z =
+      let f = specs-failed op specs g gs x z in
+      refused-is (read_specs op specs) (number_of x.refusal) x.«record» f ∙ sym (ap part_of (specs-no op specs items field spec (number_of x.refusal) f.carried f.answer))
 
-  module _ (gz : g.refusal ≡ 0) (c : Checked) (cs : c ≡ checked (read_items items)) where
-    group : Passed (read_specs op specs) g.count
-    group = specs-passed op specs g gs gz
+  module _ (gn : ℕ) (gz : g ≡ Ok gn) (c : Result ℕ Refused) (cs : numbers_of c ≡ checked (read_items items)) where
+    group : Passed (read_specs op specs) gn
+    group = specs-passed op specs g gs gn gz
 
     -- the item list is refused
-    pub source-items : (r : Part) → (c.refusal ≡ 0 → ⊥) → r ≡ refused_part c.refusal c.«record» → r ≡ part_of (meaning.source_view op specs items field spec)
-    source-items r z e =
-        let f = items-failed items c cs z in
-        e ∙ refused-is (read_items items) c.refusal c.«record» f ∙ sym (ap part_of (items-no op specs items field spec group.members c.refusal f.carried group.answer f.answer))
+    pub source-items : (x : Refused) → c ≡ Err x → refused_part (number_of x.refusal) x.«record» ≡ part_of (meaning.source_view op specs items field spec)
+    source-items x z =
+        let f = items-failed items c cs x z in
+        refused-is (read_items items) (number_of x.refusal) x.«record» f ∙ sym (ap part_of (items-no op specs items field spec group.members (number_of x.refusal) f.carried group.answer f.answer))
 
-    module _ (cz : c.refusal ≡ 0) where
-      names : Passed (read_items items) c.count
-      names = items-passed items c cs cz
+    module _ (cn : ℕ) (cz : c ≡ Ok cn) where
+      names : Passed (read_items items) cn
+      names = items-passed items c cs cn cz
 
       read_as : (o : Option Spec) → meaning.nth group.members spec ≡ o → meaning.source_view op specs items field spec ≡ meaning.view_of specs items o names.members field spec
       read_as o n =
@@ -103,10 +106,10 @@ module _ (op : ℕ) (specs items : Text) (field spec : ℕ) (g : Checked) (gs : 
           ∙ ap (λ (x : Option Spec). meaning.view_of specs items x names.members field spec) n
 
       -- the spec number is not in the list
-      pub source-outside : (r : Part) → g.count ≤ spec → r ≡ refused_part 16 0 → r ≡ part_of (meaning.source_view op specs items field spec)
-      source-outside r h e = e ∙ sym (ap part_of (read_as none (nth-none group.members spec (omega (arith, group.counted)))))
+      pub source-outside : gn ≤ spec → refused_part 16 0 ≡ part_of (meaning.source_view op specs items field spec)
+      source-outside h = sym (ap part_of (read_as none (nth-none group.members spec (omega (arith, group.counted)))))
 
-      module _ (h : spec < g.count) where
+      module _ (h : spec < gn) where
         there : (s : Spec) × (meaning.nth group.members spec ≡ some s)
         there = nth-there group.members spec (omega (arith, group.counted))
 
@@ -124,12 +127,12 @@ module _ (op : ℕ) (specs items : Text) (field spec : ℕ) (g : Checked) (gs : 
           item-read o n = read-there (suc (field - 1)) (omega arith) ∙ ap (meaning.item_part items (field - 1)) n
 
           -- the field is above the number of items
-          pub source-beyond : (r : Part) → c.count < field → r ≡ refused_part 16 0 → r ≡ part_of (meaning.source_view op specs items field spec)
-          source-beyond r k e = e ∙ sym (ap part_of (item-read none (nth-none names.members (field - 1) (omega (arith, names.counted)))))
+          pub source-beyond : cn < field → refused_part 16 0 ≡ part_of (meaning.source_view op specs items field spec)
+          source-beyond k = sym (ap part_of (item-read none (nth-none names.members (field - 1) (omega (arith, names.counted)))))
 
           -- the name of the item
-          pub source-item : (r : Part) → field ≤ c.count → r ≡ accepted_part 0 (extent_at items (field - 1)).start (extent_at items (field - 1)).len → r ≡ part_of (meaning.source_view op specs items field spec)
-          source-item r k e =
+          pub source-item : (e : Stretch) → field ≤ cn → e ≡ extent_at items (field - 1) → accepted_part 0 e.at e.len ≡ part_of (meaning.source_view op specs items field spec)
+          source-item e k is =
               let n = nth-there names.members (field - 1) (omega (arith, names.counted)) in
               let q = item-text items names.members (field - 1) n.0 names.answer n.1 in
-              e ∙ item-is items (field - 1) n.0 q.0 q.1 ∙ sym (ap part_of (item-read (some n.0) n.1))
+              rw is (item-is items (field - 1) n.0 q.0 q.1 ∙ sym (ap part_of (item-read (some n.0) n.1)))

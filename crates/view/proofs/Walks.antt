@@ -9,50 +9,49 @@ use Rattle.meaning.specs.Number as meaning
 use Rattle.meaning.specs.View.{left_by}
 use Rattle.parse.specs.Places.{part_at}
 use Rattle.parse.proofs.Parts.{part_length}
-use Rattle.list.specs.declared.cursor.Cursor.{Cursor}
-use Rattle.list.specs.declared.cursor.Step.{Step}
-use Rattle.list.specs.declared.cursor.Step.TheVariants.{Record, End, Refused}
+use Rattle.std.specs.Prelude.{Option, None, Some, Result, Ok, Err}
+use Rattle.refusal.specs.declared.Refusal.{Refusal}
+use Rattle.list.specs.declared.cursor.Record.{Record}
+use Rattle.list.specs.declared.stretch.Stretch.{Stretch}
 use Rattle.list.specs.Cursor.{step_at}
 use Rattle.list.proofs.Texts.{TextAt, stands, malformed, text_at_lem}
 use Rattle.list.proofs.Steps.{Taken, step-taken, step_end, step-refused}
-use Rattle.view.specs.declared.Extent.{Extent}
-use Rattle.view.specs.declared.Part.{Part}
-use Rattle.view.specs.Places.{after_records, extent_of, extent_at, text_at, accepted_part}
+use Rattle.view.specs.Places.{after_records, extent_of, extent_at, text_at}
 
 -- so many bytes at a place, as an extent
-extent-bytes : (s : Text) (start len : ℕ) → start + len ≤ length s → extent_of s (meaning.took (part_at s start len) (drop (start + len) s)) ≡ record { start = start; len = len }
+extent-bytes : (s : Text) (start len : ℕ) → start + len ≤ length s → extent_of s (meaning.took (part_at s start len) (drop (start + len) s)) ≡ record { at = start; len = len }
 extent-bytes s start len h =
     let e : length (drop (start + len) s) ≡ length s - (start + len) = length-drop (start + len) s in
     let p : length s - (length s - (start + len)) - len ≡ start = omega arith in
     rw (e, part_length s start len h, p)
 
 -- the answers of `next_record`
-module _ (s : Text) (at : ℕ) (w : Step) (e : w ≡ step_at s at) where
-  module _ (start len : ℕ) (next : Cursor) (is : w ≡ Record start len next) where
-    taken : Taken s at start len next.at
-    taken = step-taken s at start len next (sym e ∙ is)
+module _ (s : Text) (at : ℕ) (w : Result (Option (Record Stretch)) Refusal) (e : w ≡ step_at s at) where
+  module _ (o : Option (Record Stretch)) (wo : w ≡ Ok o) (r : Record Stretch) (is : o ≡ Some r) where
+    taken : Taken s at r.value.at r.value.len r.next.at
+    taken = step-taken s at r (sym e ∙ wo ∙ ap (λ (x : Option (Record Stretch)). Ok x) is)
 
-    pub record-found : record { start = start; len = len } ≡ extent_of s (meaning.read_text (drop at s))
-    record-found = rw (taken.reads, taken.ends) (sym (extent-bytes s start len (omega (arith, taken.ends, taken.within))))
+    pub record-found : r.value ≡ extent_of s (meaning.read_text (drop at s))
+    record-found = rw (taken.reads, taken.ends) (sym (extent-bytes s r.value.at r.value.len (omega (arith, taken.ends, taken.within))))
 
-    pub record-within : start + len ≤ length s
+    pub record-within : r.value.at + r.value.len ≤ length s
     record-within = omega (arith, taken.ends, taken.within)
 
-  pub record-end : w ≡ End → record { start = length s; len = 0 } ≡ extent_of s (meaning.read_text (drop at s))
+  pub record-end : (o : Option (Record Stretch)) → w ≡ Ok o → o ≡ None → record { at = length s; len = 0 } ≡ extent_of s (meaning.read_text (drop at s))
   unfolding meaning.read_text meaning.read_number
-  record-end is = rw (drop_of_length-le s (step_end s at (sym e ∙ is)))
+  record-end o wo is = rw (drop_of_length-le s (step_end s at (sym e ∙ wo ∙ ap (λ (x : Option (Record Stretch)). Ok x) is)))
 
-  pub record-none : (n : ℕ) → w ≡ Refused n → record { start = length s; len = 0 } ≡ extent_of s (meaning.read_text (drop at s))
+  pub record-none : (n : Refusal) → w ≡ Err n → record { at = length s; len = 0 } ≡ extent_of s (meaning.read_text (drop at s))
   record-none n is = rw (step-refused s at n (sym e ∙ is)).reads
 
 -- what follows an extent is what reading left
-extent-left : (s : Text) (at : ℕ) → TextAt s at → drop ((extent_of s (meaning.read_text (drop at s))).start + (extent_of s (meaning.read_text (drop at s))).len) s ≡ left_by (meaning.read_text (drop at s))
+extent-left : (s : Text) (at : ℕ) → TextAt s at → drop ((extent_of s (meaning.read_text (drop at s))).at + (extent_of s (meaning.read_text (drop at s))).len) s ≡ left_by (meaning.read_text (drop at s))
 extent-left s at (stands start len f k g) =
-    let p : extent_of s (meaning.read_text (drop at s)) ≡ record { start = start; len = len } = ap (extent_of s) g ∙ extent-bytes s start len k in
-    ap (λ (x : Extent). drop (x.start + x.len) s) p ∙ sym (ap left_by g)
+    let p : extent_of s (meaning.read_text (drop at s)) ≡ record { at = start; len = len } = ap (extent_of s) g ∙ extent-bytes s start len k in
+    ap (λ (x : Stretch). drop (x.at + x.len) s) p ∙ sym (ap left_by g)
 extent-left s at (malformed g) =
     let z : length s + 0 ≡ length s = omega arith in
-    ap (λ (x : meaning.Step Text). drop ((extent_of s x).start + (extent_of s x).len) s) g ∙ ap (λ (m : ℕ). drop m s) z ∙ drop-length s ∙ sym (ap left_by g)
+    ap (λ (x : meaning.Step Text). drop ((extent_of s x).at + (extent_of s x).len) s) g ∙ ap (λ (m : ℕ). drop m s) z ∙ drop-length s ∙ sym (ap left_by g)
 
 -- the walk has passed i records
 pub record Walk (s : Text) (n i at : ℕ) : Type 0 where
@@ -65,15 +64,15 @@ walk-starts s n = let e : n - 0 ≡ n = omega arith in record { count = omega ar
 
 module _ (s : Text) (n i at : ℕ) (w : Walk s n i at) where
   -- one more
-  pub walk_more : i < n → (e : Extent) → e ≡ extent_of s (meaning.read_text (drop at s)) → Walk s n (i + 1) (e.start + e.len)
+  pub walk_more : i < n → (e : Stretch) → e ≡ extent_of s (meaning.read_text (drop at s)) → Walk s n (i + 1) (e.at + e.len)
   walk_more h e is =
       let k : n - i ≡ suc (n - (i + 1)) = omega arith in
-      let d : drop (e.start + e.len) s ≡ left_by (meaning.read_text (drop at s)) = ap (λ (x : Extent). drop (x.start + x.len) s) is ∙ extent-left s at (text_at_lem s at) in
+      let d : drop (e.at + e.len) s ≡ left_by (meaning.read_text (drop at s)) = ap (λ (x : Stretch). drop (x.at + x.len) s) is ∙ extent-left s at (text_at_lem s at) in
       let p : after_records (suc (n - (i + 1))) (drop at s) ≡ after_records n s = rw k at w.left in
       record { count = omega arith; left = ap (after_records (n - (i + 1))) d ∙ p }
 
   -- after n of them the next is the one
-  pub walk_ends : n ≤ i → (e : Extent) → e ≡ extent_of s (meaning.read_text (drop at s)) → e ≡ extent_at s n
+  pub walk_ends : n ≤ i → (e : Stretch) → e ≡ extent_of s (meaning.read_text (drop at s)) → e ≡ extent_at s n
   unfolding extent_at
   walk_ends h e is =
       let k : n - i ≡ 0 = omega arith in
@@ -86,7 +85,7 @@ after-drop zero s = (0, refl)
 after-drop (suc n) s =
     let e = extent-left s 0 (text_at_lem s 0) in
     let q = after-drop n (left_by (meaning.read_text s)) in
-    let m : ℕ = (extent_of s (meaning.read_text s)).start + (extent_of s (meaning.read_text s)).len in
+    let m : ℕ = (extent_of s (meaning.read_text s)).at + (extent_of s (meaning.read_text s)).len in
     (m + q.0, q.1 ∙ ap (drop q.0) (sym e) ∙ drop-drop q.0 m s)
 
 -- where record n was read, its extent has its bytes
@@ -112,7 +111,3 @@ module _ (s : Text) (n : ℕ) (t rest : Text) (e : meaning.read_text (after_reco
   extent-fits =
       let q = standing in
       omega (arith, q.2, ap length q.3, part_length s q.0 q.1 q.2, ap length q.4, length-drop (q.0 + q.1) s)
-
--- the part that an extent is
-pub extent-part : (e x : Extent) (r : Part) → e ≡ x → r ≡ accepted_part 0 e.start e.len → r ≡ accepted_part 0 x.start x.len
-extent-part e x r p q = rw (← p) q

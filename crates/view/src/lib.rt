@@ -1,18 +1,22 @@
 //! The source view: the bytes that a forward row's source has, as a part of the item list or of the spec list.
+// As it is: (a) an operation is the C interface's number here; `spec_list` asks question 18 of it, and here it is handed on.
 #![tactic(auto)]
 
 ghost use Rattle.std.specs.Prelude.{◌≡◌, ◌+◌, ◌≤◌, length, take, drop};
-ghost use Rattle.meaning.specs.Bytes.{object_id};
 ghost use Rattle.meaning.specs.Number.{read_text};
 ghost use Rattle.meaning.specs.View.{source_view, view_text, view_numbers};
 ghost use Rattle.parse.specs.Places.{part_at, Within};
-ghost use Rattle.view.specs.Places.{extent_of, extent_at, part_of, refused_part, accepted_part, digits_at, object_text, side_digits, spec_digits};
+ghost use Rattle.view.specs.Places.{extent_of, extent_at, part_of, part_told, digits_at, object_text, side_digits, spec_digits};
 
-use list::cursor::{Cursor, Step};
-use parse::types::{RefSpec, Side};
+use list::cursor::Cursor;
+use list::refused::Refused;
+use list::stretch::Stretch;
+use parse::types::Side;
+use refusal::Refusal;
 
 // A part of a lent list in numbers: a refusal's or 0, the record that it carries, the list (0 the items, 1 the specs), where the part
 // begins in it and how many bytes it has. A field without a meaning is 0.
+// As it is: (a) C reads this record, whose fields are numbers of 64 bits.
 #[repr(C)]
 #[derive(Clone, Copy)]
 pub struct Part {
@@ -23,162 +27,154 @@ pub struct Part {
     pub length: u64,
 }
 
-// Where the bytes of a record stand in its list.
-#[derive(Clone, Copy)]
-struct Extent {
-    start: usize,
-    len: usize,
-}
-
-// A refused view: an empty part beside its number.
-fn refused(refusal: u64, record: u64) -> Part
-    ensures { result ≡ refused_part refusal «record» }
-{
-    Part {
-        refusal,
-        record,
-        list: 0,
-        start: 0,
-        length: 0,
-    }
+// A list that is lent: the items, 0, or the specs, 1.
+#[derive(Clone, Copy, Debug, PartialEq, Eq)]
+enum Lent {
+    Items,
+    Specs,
 }
 
 // A part of a lent list.
-fn accepted(list: u64, start: usize, len: usize) -> Part
-    ensures { result ≡ accepted_part list start len }
+#[derive(Clone, Copy)]
+struct Viewed {
+    list: Lent,
+    text: Stretch,
+}
+
+// The part in numbers that a view is; a refused one is empty.
+fn told(view: Result<Viewed, Refused>) -> Part
+    ensures { result ≡ part_told view }
 {
-    Part {
-        refusal: 0,
-        record: 0,
-        list,
-        start: start as u64,
-        length: len as u64,
+    match view {
+        Ok(v) => Part {
+            refusal: 0,
+            record: 0,
+            list: match v.list {
+                Lent::Items => 0,
+                Lent::Specs => 1,
+            },
+            start: v.text.at as u64,
+            length: v.text.len as u64,
+        },
+        Err(e) => Part {
+            refusal: e.refusal.number(),
+            record: e.record,
+            list: 0,
+            start: 0,
+            length: 0,
+        },
     }
 }
 
+// The refusal of what the lists do not have.
+const OUTSIDE: Refused = Refused {
+    refusal: Refusal::RowOutside,
+    record: 0,
+};
+
 // The record that begins at `at`; no bytes at the list's end where there is none.
-fn next_record(list: &[u8], at: usize) -> Extent
-    ensures { (result ≡ extent_of list.now (read_text (drop at list.now))) × (result.start + result.len ≤ length list.now) }
+fn next_record(list: &[u8], at: usize) -> Stretch
+    ensures { (result ≡ extent_of list.now (read_text (drop at list.now))) × (result.at + result.len ≤ length list.now) }
 {
     let c = Cursor { at };
     match c.next(list) {
-        Step::Record { start, len, .. } => Extent { start, len },
-        Step::End => Extent {
-            start: list.len(),
-            len: 0,
-        },
-        Step::Refused(_) => Extent {
-            start: list.len(),
+        Ok(Some(r)) => r.value,
+        Ok(None) | Err(_) => Stretch {
+            at: list.len(),
             len: 0,
         },
     }
 }
 
 // Record number n.
-fn record_at(list: &[u8], n: usize) -> Extent
-    ensures { (result ≡ extent_at list.now n) × (result.start + result.len ≤ length list.now) }
+fn record_at(list: &[u8], n: usize) -> Stretch
+    ensures { (result ≡ extent_at list.now n) × (result.at + result.len ≤ length list.now) }
 {
     let mut at = 0;
-    let mut i = 0;
-    while i < n {
+    for _i in 0..n {
         let e = next_record(list, at);
-        at = e.start + e.len;
-        i += 1;
+        at = e.at + e.len;
     }
     next_record(list, at)
 }
 
-// The bytes are an object id; its digits are of either case, and are viewed as they are spelled.
-fn spells_object(t: &[u8]) -> bool
-    ensures { result ≡ object_id t.now }
-{
-    hex_digits::object_id(t)
-}
-
-// The n bytes at a place of the spec that begins at `start`, where they are an object id.
-fn digits(specs: &[u8], start: usize, at: usize, n: usize) -> Part
+// The n bytes at a place of the spec that begins at `start`, where they are an object id; its digits are of either case, and are viewed as
+// they are spelled.
+fn digits(specs: &[u8], start: usize, at: usize, n: usize) -> Result<Viewed, Refused>
     requires { start + at + n ≤ length specs.now }
-    ensures { result ≡ digits_at (start + at) (object_text (part_at specs.now (start + at) n)) }
+    ensures { part_told result ≡ digits_at (start + at) (object_text (part_at specs.now (start + at) n)) }
 {
-    let from = start + at;
-    let end = from + n;
-    if spells_object(&specs[from..end]) {
-        return accepted(1, from, n);
+    let text = Stretch {
+        at: start + at,
+        len: n,
+    };
+    if !hex_digits::object_id(text.of(specs)) {
+        return Err(OUTSIDE);
     }
-    refused(16, 0)
+    Ok(Viewed {
+        list: Lent::Specs,
+        text,
+    })
 }
 
 // The digits of the source of a spec that begins at `start`.
-fn side_digits(specs: &[u8], start: usize, len: usize, src: Side) -> Part
+fn side_digits(specs: &[u8], start: usize, len: usize, src: Side) -> Result<Viewed, Refused>
     requires { (start + len ≤ length specs.now) × Within len src }
-    ensures { result ≡ side_digits specs.now start src }
+    ensures { part_told result ≡ side_digits specs.now start src }
 {
     match src {
-        Side::Absent => refused(16, 0),
         Side::Part(at, n) => digits(specs, start, at, n),
-        Side::Head => refused(16, 0),
+        Side::Absent | Side::Head => Err(OUTSIDE),
     }
-}
-
-// The digits of a spec that was read.
-fn read_digits(specs: &[u8], start: usize, len: usize, r: RefSpec) -> Part
-    requires { (start + len ≤ length specs.now) × Within len r.src }
-    ensures { result ≡ side_digits specs.now start r.src }
-{
-    let src = r.src;
-    side_digits(specs, start, len, src)
 }
 
 // The digits of the object source of spec number n, as the spec spells them; 16 where its source is no object id.
-fn object_part(op: u64, specs: &[u8], n: usize) -> Part
-    ensures { result ≡ spec_digits op specs.now (extent_at specs.now n) }
+fn object_part(op: u64, specs: &[u8], n: usize) -> Result<Viewed, Refused>
+    ensures { part_told result ≡ spec_digits op specs.now (extent_at specs.now n) }
 {
     let e = record_at(specs, n);
-    let start = e.start;
-    let len = e.len;
-    let end = start + len;
-    match parse::parse(op, &specs[start..end]) {
-        Ok(r) => read_digits(specs, start, len, r),
-        Err(_) => refused(16, 0),
+    match parse::parse(op, e.of(specs)) {
+        Ok(r) => side_digits(specs, e.at, e.len, r.src),
+        Err(_) => Err(OUTSIDE),
     }
-}
-
-// The name of item number j.
-fn item_part(items: &[u8], j: usize) -> Part
-    ensures { result ≡ accepted_part 0 (extent_at items.now j).start (extent_at items.now j).len }
-{
-    let e = record_at(items, j);
-    accepted(0, e.start, e.len)
 }
 
 // The part that a forward row's source is: field 0 takes the digits of the spec's object source, a higher field that item's name.
-pub fn source(op: u64, specs: &[u8], items: &[u8], item_field: u64, spec: u64) -> Part
-    ensures { result ≡ part_of (source_view op specs.now items.now item_field spec) }
+fn part_viewed(
+    op: u64,
+    specs: &[u8],
+    items: &[u8],
+    field: usize,
+    n: usize,
+) -> Result<Viewed, Refused>
+    ensures { part_told result ≡ part_of (source_view op specs.now items.now field n) }
 {
-    let g = spec_list::check_specs(op, specs);
-    if g.refusal != 0 {
-        return refused(g.refusal, g.record);
-    }
-    let c = list::items::read_items(items);
-    if c.refusal != 0 {
-        return refused(c.refusal, c.record);
-    }
-    let field = item_field as usize;
-    let n = spec as usize;
-    if g.count <= n {
-        return refused(16, 0);
+    let group = spec_list::check_specs(op, specs)?;
+    let names = list::items::read_items(items)?;
+    if group <= n {
+        return Err(OUTSIDE);
     }
     if field == 0 {
         return object_part(op, specs, n);
     }
-    if c.count < field {
-        return refused(16, 0);
+    if names < field {
+        return Err(OUTSIDE);
     }
-    let j = field - 1;
-    item_part(items, j)
+    Ok(Viewed {
+        list: Lent::Items,
+        text: record_at(items, field - 1),
+    })
+}
+
+// That part, in numbers.
+pub fn source(op: u64, specs: &[u8], items: &[u8], item_field: u64, spec: u64) -> Part
+    ensures { result ≡ part_of (source_view op specs.now items.now item_field spec) }
+{
+    told(part_viewed(op, specs, items, item_field as usize, spec as usize))
 }
 
 // The bytes of a part of a list.
+// As it is: (a) the numbers of a part are those of the C interface.
 fn bytes(list: &[u8], start: u64, len: u64) -> &[u8]
     requires { start + len ≤ length list.now }
     ensures { result.now ≡ take len (drop start list.now) }

@@ -1,11 +1,13 @@
 -- The canonical text by its pieces: their length, and writing them one after the other. Assumes nothing.
-use Prim.Native.Nat.{ℕ, zero, suc, ◌+◌, ◌≤◌, ◌<◌}
+use Prim.Native.Nat.{ℕ, ◌+◌, ◌≤◌, ◌<◌}
 use native.Mathlib.Omega.{arith}
-use native.Mathlib.Nat.{add-zero}
 use mathlib.Core.Path.{◌≡◌, refl, sym, ap, ◌∙◌}
 use mathlib.Core.Bool.{Bool, true, false, cond}
 use mathlib.Core.List.{[], ◌∷◌, ◌++◌, append-nil}
 use mathlib.Core.Option.{some}
+use Rattle.std.proofs.Common.{Option, Some, None}
+use mir.Val.{bool_byte}
+use Rattle.std.specs.Option.{is_some}
 use lib.ListN.{length, length-append}
 use Rattle.meaning.specs.Bytes.{Text}
 use Rattle.meaning.specs.Spec.{accepted, is_negative, is_force, push}
@@ -18,7 +20,6 @@ use Rattle.buffer.specs.Splice.{splice}
 use Rattle.buffer.proofs.Splices.{splice-none}
 use Rattle.buffer.proofs.Pairs.{pair-first, pair-second, pair_put}
 use Rattle.parse.specs.declared.types.Side.{Side}
-use Rattle.parse.specs.declared.types.Side.TheVariants.{Absent}
 use Rattle.parse.specs.declared.types.RefSpec.{RefSpec}
 use Rattle.std.specs.Prelude.{Result, Ok, Err}
 use Rattle.refusal.specs.declared.Refusal.{Refusal}
@@ -28,144 +29,84 @@ use Rattle.refspec.specs.declared.instruction.Instruction.{Instruction}
 use Rattle.refspec.specs.declared.instruction.Instruction.TheVariants.{FetchOnly, FetchExclude, FetchAndUpdate, PushAllMatchingBranches, PushDelete, PushMatching, PushExclude}
 use Rattle.write.specs.declared.Pieces.{Pieces}
 use Rattle.refspec.specs.Instructions.{side_text, fetch_places, push_places, instruction_places, instruction_meant}
-use Rattle.write.specs.Canonical.{one_piece, two_pieces, pieces_of, sign_text, colon_text, pieces_text, PiecesWithin}
+use Rattle.write.specs.Canonical.{pieces_of, sign_text, dst_text, pieces_text, DstWithin, PiecesWithin}
 use Rattle.refspec.proofs.Instructions.{instruction-meant}
 use Rattle.spec_text.proofs.Meets.{spec-accepted, spec-refused}
 
--- ---- the pieces
+-- ---- their length
 
-module _ (force : Bool) (src dst : Side) where
-  -- a forced text has a `+`
-  pub two-forced : force ≡ true → ◌≡◌ {A = Pieces} (record { sign = 43; src = src; colon = true; dst = dst }) (two_pieces force src dst)
-  two-forced e = rw e
+-- a sign that is there takes a byte
+pub sign-length : (sign : Option ℕ) → bool_byte (is_some sign) ≡ length (sign_text sign)
+sign-length None = refl
+sign-length (Some b) = refl
 
-  -- another has no sign
-  pub two-plain : force ≡ false → ◌≡◌ {A = Pieces} (record { sign = 0; src = src; colon = true; dst = dst }) (two_pieces force src dst)
-  two-plain e = rw e
+-- a destination that is there takes a byte more than its side
+module _ (t : Text) (dst : Option Side) (r : ℕ) where
+  pub dst-some-length : (side : Side) (n : ℕ) → dst ≡ Some side → n ≡ length (side_text t side) → r ≡ 1 + n → r ≡ length (dst_text t dst)
+  dst-some-length side n is e h = rw is (omega arith)
 
--- the arms of a `match` on an instruction
-module _ (i : Instruction) (p : Pieces) where
-  -- fetch-only
-  pub pieces-fetch-only : (src : Side) → i ≡ FetchOnly src → p ≡ one_piece 0 src → p ≡ pieces_of i
-  pieces-fetch-only src e h = rw e h
-
-  -- fetch, negative
-  pub pieces-fetch-exclude : (src : Side) → i ≡ FetchExclude src → p ≡ one_piece 94 src → p ≡ pieces_of i
-  pieces-fetch-exclude src e h = rw e h
-
-  -- fetch and update
-  pub pieces-update : (src dst : Side) (f : Bool) → i ≡ FetchAndUpdate src dst f → p ≡ two_pieces f src dst → p ≡ pieces_of i
-  pieces-update src dst f e h = rw e h
-
-  -- push of all matching branches
-  pub pieces-all : (f : Bool) → i ≡ PushAllMatchingBranches f → p ≡ two_pieces f Absent Absent → p ≡ pieces_of i
-  pieces-all f e h = rw e h
-
-  -- delete
-  pub pieces-delete : (dst : Side) → i ≡ PushDelete dst → p ≡ two_pieces false Absent dst → p ≡ pieces_of i
-  pieces-delete dst e h = rw e h
-
-  -- push
-  pub pieces-matching : (src dst : Side) (f : Bool) → i ≡ PushMatching src dst f → p ≡ two_pieces f src dst → p ≡ pieces_of i
-  pieces-matching src dst f e h = rw e h
-
-  -- push, negative
-  pub pieces-push-exclude : (src : Side) → i ≡ PushExclude src → p ≡ one_piece 94 src → p ≡ pieces_of i
-  pieces-push-exclude src e h = rw e h
-
--- ---- their lengths
-
--- a sign that is there is one byte
-pub sign-some : (sign : ℕ) → (sign ≡ 0 → ⊥) → 1 ≡ length (sign_text sign)
-sign-some zero n = absurd (n refl)
-sign-some (suc k) n = refl
+  pub dst-none-length : dst ≡ None → r ≡ 0 → r ≡ length (dst_text t dst)
+  dst-none-length is h = rw is h
 
 -- the lengths of the pieces add up
-pub pieces-length : (t : Text) (p : Pieces) (a b c d : ℕ) → a ≡ length (sign_text p.sign) → b ≡ length (side_text t p.src) → c ≡ length (colon_text p.colon) → d ≡ length (side_text t p.dst) → a + b + c + d ≡ length (pieces_text t p)
+pub pieces-length : (t : Text) (p : Pieces) (a b c : ℕ) → a ≡ length (sign_text p.sign) → b ≡ length (side_text t p.src) → c ≡ length (dst_text t p.dst) → a + b + c ≡ length (pieces_text t p)
 unfolding pieces_text
-pieces-length t p a b c d ea eb ec ed =
-    omega (
-      arith,
-      length-append (sign_text p.sign ++ side_text t p.src) (colon_text p.colon ++ side_text t p.dst),
-      length-append (sign_text p.sign) (side_text t p.src),
-      length-append (colon_text p.colon) (side_text t p.dst),
-    )
+pieces-length t p a b c ea eb ec = omega (arith, length-append (sign_text p.sign) (side_text t p.src ++ dst_text t p.dst), length-append (side_text t p.src) (dst_text t p.dst))
 
 -- ---- writing them
 
--- a sign
-module _ (d : Text) (at sign : ℕ) where
-  -- none writes nothing
-  pub sign-none-put : sign ≡ 0 → d ≡ splice d at (sign_text sign)
-  sign-none-put e = rw e (sym (splice-none d at))
+-- a destination that is there stands within the spec
+pub dst-in : (len : ℕ) (p : Pieces) (side : Side) → p.dst ≡ Some side → DstWithin len p.dst → Within len side
+dst-in len p side is w = rw is at w
 
-  -- and ends where it begins
-  pub sign-none-end : sign ≡ 0 → at ≡ at + length (sign_text sign)
-  sign-none-end e = rw e (sym (add-zero at))
-
-  -- one that is there is its byte
-  sign-is : (sign ≡ 0 → ⊥) → sign_text sign ≡ sign ∷ []
-  sign-is n = go sign n
-    where
-      go : (k : ℕ) → (k ≡ 0 → ⊥) → sign_text k ≡ k ∷ []
-      go zero n = absurd (n refl)
-      go (suc k) n = refl
-
-  module _ (n : sign ≡ 0 → ⊥) where
-    -- has room
-    pub sign-room : at + length (sign_text sign) ≤ length d → at < length d
-    sign-room h = let g : at + 1 ≤ length d = rw (sign-is n) at h in omega arith
-
-    -- is written as that byte
-    pub sign-put : (o : Text) → o ≡ splice d at (sign ∷ []) → o ≡ splice d at (sign_text sign)
-    sign-put o h = rw (sign-is n) h
-
-    -- and ends after it
-    pub sign-end : (r : ℕ) → r ≡ at + 1 → r ≡ at + length (sign_text sign)
-    sign-end r h = rw (sign-is n) h
-
--- a colon
-module _ (d : Text) (at : ℕ) (colon-there : Bool) where
-  -- none writes nothing
-  pub colon-none-put : colon-there ≡ false → d ≡ splice d at (colon_text colon-there)
-  colon-none-put e = rw e (sym (splice-none d at))
-
-  -- and ends where it begins
-  pub colon-none-end : colon-there ≡ false → at ≡ at + length (colon_text colon-there)
-  colon-none-end e = rw e (sym (add-zero at))
-
-  module _ (e : colon-there ≡ true) where
-    -- one that is there has room
-    pub colon-room : at + length (colon_text colon-there) ≤ length d → at < length d
-    colon-room h = let g : at + 1 ≤ length d = rw e at h in omega arith
-
-    -- is written as its byte
-    pub colon-put : (o : Text) → o ≡ splice d at (58 ∷ []) → o ≡ splice d at (colon_text colon-there)
-    colon-put o h = rw e h
-
-    -- and ends after it
-    pub colon-end : (r : ℕ) → r ≡ at + 1 → r ≡ at + length (colon_text colon-there)
-    colon-end r h = rw e h
-
--- front and back, one after the other
 module _ (t d : Text) (p : Pieces) (fits : length (pieces_text t p) ≤ length d) where
-  both : 0 + length ((sign_text p.sign ++ side_text t p.src) ++ (colon_text p.colon ++ side_text t p.dst)) ≤ length d
+  room : 0 + length (sign_text p.sign ++ (side_text t p.src ++ dst_text t p.dst)) ≤ length d
   unfolding pieces_text
-  both = omega arith
+  room = omega arith
 
-  -- the front has room
-  pub front-room : 0 + length (sign_text p.sign ++ side_text t p.src) ≤ length d
-  front-room = pair-first d 0 (sign_text p.sign ++ side_text t p.src) (colon_text p.colon ++ side_text t p.dst) both
+  -- the sign has room
+  pub sign-room : length (sign_text p.sign) ≤ length d
+  sign-room = let g : 0 + length (sign_text p.sign) ≤ length d = pair-first d 0 (sign_text p.sign) (side_text t p.src ++ dst_text t p.dst) room in omega arith
 
-  module _ (o : Text) (i : ℕ) (eo : o ≡ splice d 0 (sign_text p.sign ++ side_text t p.src)) (ei : i ≡ 0 + length (sign_text p.sign ++ side_text t p.src)) where
-    -- so has the back after it
-    pub back-room : i + length (colon_text p.colon ++ side_text t p.dst) ≤ length o
-    back-room = pair-second d 0 (sign_text p.sign ++ side_text t p.src) (colon_text p.colon ++ side_text t p.dst) both o i eo ei
+  module _ (d₁ : Text) (i : ℕ) (p₁ : d₁ ≡ splice d 0 (sign_text p.sign)) (e₁ : i ≡ length (sign_text p.sign)) where
+    at-i : i ≡ 0 + length (sign_text p.sign)
+    at-i = omega arith
 
-    -- and both are the whole text
-    pub all-written : (o₂ : Text) → o₂ ≡ splice o i (colon_text p.colon ++ side_text t p.dst) → o₂ ≡ splice d 0 (pieces_text t p)
-    unfolding pieces_text
-    all-written o₂ e = pair_put d 0 (sign_text p.sign ++ side_text t p.src) (colon_text p.colon ++ side_text t p.dst) both o i eo ei o₂ e
+    rest-room : i + length (side_text t p.src ++ dst_text t p.dst) ≤ length d₁
+    rest-room = pair-second d 0 (sign_text p.sign) (side_text t p.src ++ dst_text t p.dst) room d₁ i p₁ at-i
+
+    -- the source after it
+    pub src-room : i + length (side_text t p.src) ≤ length d₁
+    src-room = pair-first d₁ i (side_text t p.src) (dst_text t p.dst) rest-room
+
+    module _ (d₂ : Text) (j : ℕ) (p₂ : d₂ ≡ splice d₁ i (side_text t p.src)) (e₂ : j ≡ i + length (side_text t p.src)) where
+      dst-room : j + length (dst_text t p.dst) ≤ length d₂
+      dst-room = pair-second d₁ i (side_text t p.src) (dst_text t p.dst) rest-room d₂ j p₂ e₂
+
+      all-written : (o : Text) → o ≡ splice d₂ j (dst_text t p.dst) → o ≡ splice d 0 (pieces_text t p)
+      unfolding pieces_text
+      all-written o e = pair_put d 0 (sign_text p.sign) (side_text t p.src ++ dst_text t p.dst) room d₁ i p₁ at-i o (pair_put d₁ i (side_text t p.src) (dst_text t p.dst) rest-room d₂ j p₂ e₂ o e)
+
+      -- without a destination that is all
+      pub none-written : p.dst ≡ None → d₂ ≡ splice d 0 (pieces_text t p)
+      none-written is = all-written d₂ (rw is (sym (splice-none d₂ j)))
+
+      module _ (side : Side) (is : p.dst ≡ Some side) where
+        pair-room : j + length ((58 ∷ []) ++ side_text t side) ≤ length d₂
+        pair-room = rw is at dst-room
+
+        -- the colon of one has room
+        pub colon-room : j < length d₂
+        colon-room = let g : j + 1 ≤ length d₂ = pair-first d₂ j (58 ∷ []) (side_text t side) pair-room in omega arith
+
+        module _ (d₃ : Text) (k : ℕ) (p₃ : d₃ ≡ splice d₂ j (58 ∷ [])) (e₃ : k ≡ j + 1) where
+          -- the destination after it
+          pub side-room : k + length (side_text t side) ≤ length d₃
+          side-room = pair-second d₂ j (58 ∷ []) (side_text t side) pair-room d₃ k p₃ e₃
+
+          -- and that is all
+          pub some-written : (o : Text) → o ≡ splice d₃ k (side_text t side) → o ≡ splice d 0 (pieces_text t p)
+          some-written o e = all-written o (rw is (pair_put d₂ j (58 ∷ []) (side_text t side) pair-room d₃ k p₃ e₃ o e))
 
 -- ---- the canonical text
 

@@ -1,7 +1,8 @@
 // The canonical text of a spec. Port of the crate's write.rs.
+// As it is: (a) an operation is the C interface's number here; it is handed on as it stands to `parse`, which asks question 18 of it.
 #![tactic(auto)]
 
-ghost use Rattle.std.specs.Prelude.{◌≡◌, [], ◌∷◌, ◌++◌, ◌+◌, ◌≤◌, length};
+ghost use Rattle.std.specs.Prelude.{◌≡◌, [], ◌∷◌, ◌≤◌, length};
 ghost use Rattle.std.proofs.Math.Option.{some};
 ghost use Rattle.buffer.specs.Splice.{splice};
 ghost use Rattle.meaning.specs.Limits.{spec_bytes};
@@ -9,9 +10,8 @@ ghost use Rattle.meaning.specs.Spec.{accepted};
 ghost use Rattle.meaning.specs.Instruction.{canonical_text};
 ghost use Rattle.meaning.specs.Buffers.{MeetsOne};
 ghost use Rattle.meaning.specs.Entries.{to_bstring};
-ghost use Rattle.parse.specs.Places.{Within, SidesWithin, spec_meant};
-ghost use Rattle.refspec.specs.Instructions.{side_text};
-ghost use Rattle.write.specs.Canonical.{one_piece, two_pieces, sign_text, colon_text, pieces_of, PiecesWithin, pieces_text};
+ghost use Rattle.parse.specs.Places.{SidesWithin, spec_meant};
+ghost use Rattle.write.specs.Canonical.{two_pieces, sign_text, pieces_of, PiecesWithin, pieces_text};
 
 use buffer::written::{Written, done, refused, short};
 use parse::parse;
@@ -20,159 +20,96 @@ use refspec::instruction::Instruction;
 use refspec::spec::instruction_of;
 use spec_text::{put_side, side_size};
 
-// The pieces of a canonical text: a sign or 0 for none, a source, whether a colon follows, a destination.
+// The pieces of a canonical text: a sign, if there is one, a source, and a destination after a colon, if there is one.
 #[derive(Clone, Copy)]
 struct Pieces {
-    sign: u8,
+    sign: Option<u8>,
     src: Side,
-    colon: bool,
-    dst: Side,
+    dst: Option<Side>,
 }
 
-// A text that is a sign and a source.
-fn one_sided(sign: u8, src: Side) -> Pieces
-    ensures { result ≡ one_piece sign src }
+// Writes a sign, if there is one, at the start of the buffer, and answers the place after it.
+fn put_sign(out: &mut [u8], sign: Option<u8>) -> usize
+    requires { length (sign_text sign) ≤ length out.old }
+    ensures { (out.new ≡ splice out.old 0 (sign_text sign)) × (result ≡ length (sign_text sign)) }
 {
-    Pieces {
-        sign,
-        src,
-        colon: false,
-        dst: Side::Absent,
+    match sign {
+        Some(b) => buffer::put_byte(out, 0, b),
+        None => 0,
     }
 }
 
-// A text with a colon, and `+` where forced.
-fn two_sided(force: bool, src: Side, dst: Side) -> Pieces
-    ensures { result ≡ two_pieces force src dst }
-{
-    if force {
-        return Pieces {
-            sign: b'+',
+impl Pieces {
+    // A source and a destination, after `+` where forced.
+    fn pair(force: bool, src: Side, dst: Side) -> Pieces
+        ensures { result ≡ two_pieces force src dst }
+    {
+        Pieces {
+            sign: force.then_some(b'+'),
             src,
-            colon: true,
-            dst,
+            dst: Some(dst),
+        }
+    }
+
+    // The pieces of an instruction's text; fetch-only and delete lose the `+`.
+    fn of(i: Instruction) -> Pieces
+        ensures { result ≡ pieces_of i }
+    {
+        match i {
+            Instruction::FetchOnly { src } => Pieces {
+                sign: None,
+                src,
+                dst: None,
+            },
+            Instruction::FetchExclude { src } | Instruction::PushExclude { src } => Pieces {
+                sign: Some(b'^'),
+                src,
+                dst: None,
+            },
+            Instruction::FetchAndUpdate {
+                src,
+                dst,
+                allow_non_fast_forward,
+            }
+            | Instruction::PushMatching {
+                src,
+                dst,
+                allow_non_fast_forward,
+            } => Pieces::pair(allow_non_fast_forward, src, dst),
+            Instruction::PushAllMatchingBranches {
+                allow_non_fast_forward,
+            } => Pieces::pair(allow_non_fast_forward, Side::Absent, Side::Absent),
+            Instruction::PushDelete { ref_or_pattern } => {
+                Pieces::pair(false, Side::Absent, ref_or_pattern)
+            }
+        }
+    }
+
+    // How many bytes the text has.
+    fn size(self, spec: &[u8]) -> usize
+        requires { PiecesWithin (length spec.now) self × (length spec.now ≤ spec_bytes) }
+        ensures { result ≡ length (pieces_text spec.now self) }
+    {
+        let sign = usize::from(self.sign.is_some());
+        let dst = match self.dst {
+            Some(side) => 1 + side_size(spec, side),
+            None => 0,
         };
+        sign + side_size(spec, self.src) + dst
     }
-    Pieces {
-        sign: 0,
-        src,
-        colon: true,
-        dst,
+
+    // Writes the text at the start of the buffer.
+    fn put(self, out: &mut [u8], spec: &[u8])
+        requires { PiecesWithin (length spec.now) self × (length (pieces_text spec.now self) ≤ length out.old) }
+        ensures { out.new ≡ splice out.old 0 (pieces_text spec.now self) }
+    {
+        let i = put_sign(out, self.sign);
+        let j = put_side(out, i, spec, self.src);
+        if let Some(side) = self.dst {
+            let k = buffer::put_byte(out, j, b':');
+            put_side(out, k, spec, side);
+        }
     }
-}
-
-// The pieces of an instruction's text; fetch-only and delete lose the `+`.
-fn pieces_of(i: Instruction) -> Pieces
-    ensures { result ≡ pieces_of i }
-{
-    match i {
-        Instruction::FetchOnly { src } => one_sided(0, src),
-        Instruction::FetchExclude { src } => one_sided(b'^', src),
-        Instruction::FetchAndUpdate {
-            src,
-            dst,
-            allow_non_fast_forward,
-        } => two_sided(allow_non_fast_forward, src, dst),
-        Instruction::PushAllMatchingBranches {
-            allow_non_fast_forward,
-        } => two_sided(allow_non_fast_forward, Side::Absent, Side::Absent),
-        Instruction::PushDelete { ref_or_pattern } => two_sided(
-            false,
-            Side::Absent,
-            ref_or_pattern,
-        ),
-        Instruction::PushMatching {
-            src,
-            dst,
-            allow_non_fast_forward,
-        } => two_sided(allow_non_fast_forward, src, dst),
-        Instruction::PushExclude { src } => one_sided(b'^', src),
-    }
-}
-
-// How many bytes a sign takes.
-fn sign_size(sign: u8) -> usize
-    ensures { (result ≡ length (sign_text sign)) × (result ≤ 1) }
-{
-    if sign == 0 {
-        return 0;
-    }
-    1
-}
-
-// How many bytes a colon takes, if there is one.
-fn colon_size(colon: bool) -> usize
-    ensures { (result ≡ length (colon_text colon)) × (result ≤ 1) }
-{
-    if colon {
-        return 1;
-    }
-    0
-}
-
-// How many bytes the text of the pieces has.
-fn pieces_size(spec: &[u8], p: Pieces) -> usize
-    requires { PiecesWithin (length spec.now) p × (length spec.now ≤ spec_bytes) }
-    ensures { result ≡ length (pieces_text spec.now p) }
-{
-    let sign = p.sign;
-    let src = p.src;
-    let colon = p.colon;
-    let dst = p.dst;
-    sign_size(sign) + side_size(spec, src) + colon_size(colon) + side_size(spec, dst)
-}
-
-// Writes a sign, and answers the place after it.
-fn put_sign(out: &mut [u8], at: usize, sign: u8) -> usize
-    requires { at + length (sign_text sign) ≤ length out.old }
-    ensures { (out.new ≡ splice out.old at (sign_text sign)) × (result ≡ at + length (sign_text sign)) }
-{
-    if sign == 0 {
-        return at;
-    }
-    buffer::put_byte(out, at, sign)
-}
-
-// Writes a colon, if there is one, and answers the place after it.
-fn put_colon(out: &mut [u8], at: usize, colon: bool) -> usize
-    requires { at + length (colon_text colon) ≤ length out.old }
-    ensures { (out.new ≡ splice out.old at (colon_text colon)) × (result ≡ at + length (colon_text colon)) }
-{
-    if colon {
-        return buffer::put_byte(out, at, b':');
-    }
-    at
-}
-
-// Writes a sign and a side, and answers the place after them.
-fn put_front(out: &mut [u8], at: usize, spec: &[u8], sign: u8, src: Side) -> usize
-    requires { Within (length spec.now) src × (at + length (sign_text sign ++ side_text spec.now src) ≤ length out.old) }
-    ensures { (out.new ≡ splice out.old at (sign_text sign ++ side_text spec.now src)) × (result ≡ at + length (sign_text sign ++ side_text spec.now src)) }
-{
-    let i = put_sign(out, at, sign);
-    put_side(out, i, spec, src)
-}
-
-// Writes a colon, if there is one, and a side, and answers the place after them.
-fn put_back(out: &mut [u8], at: usize, spec: &[u8], colon: bool, dst: Side) -> usize
-    requires { Within (length spec.now) dst × (at + length (colon_text colon ++ side_text spec.now dst) ≤ length out.old) }
-    ensures { (out.new ≡ splice out.old at (colon_text colon ++ side_text spec.now dst)) × (result ≡ at + length (colon_text colon ++ side_text spec.now dst)) }
-{
-    let i = put_colon(out, at, colon);
-    put_side(out, i, spec, dst)
-}
-
-// Writes the text of the pieces at the start of the buffer.
-fn put_pieces(out: &mut [u8], spec: &[u8], p: Pieces)
-    requires { PiecesWithin (length spec.now) p × (length (pieces_text spec.now p) ≤ length out.old) }
-    ensures { out.new ≡ splice out.old 0 (pieces_text spec.now p) }
-{
-    let sign = p.sign;
-    let src = p.src;
-    let colon = p.colon;
-    let dst = p.dst;
-    let i = put_front(out, 0, spec, sign, src);
-    put_back(out, i, spec, colon, dst);
 }
 
 // The canonical text of a spec that was read.
@@ -180,16 +117,17 @@ fn write_to(op: u64, spec: &[u8], r: RefSpec, out: &mut [u8]) -> Written
     requires { SidesWithin (length spec.now) r × (length spec.now ≤ spec_bytes) }
     ensures { MeetsOne (accepted (some (canonical_text op (spec_meant spec.now r)) ∷ [])) out.old out.new result.refusal result.record result.length }
 {
-    let p = pieces_of(instruction_of(op, r));
-    let size = pieces_size(spec, p);
+    let p = Pieces::of(instruction_of(op, r));
+    let size = p.size(spec);
     if out.len() < size {
         return short(size);
     }
-    put_pieces(out, spec, p);
+    p.put(out, spec);
     done(size)
 }
 
 // The canonical text of a spec, for an operation, 0 fetch or 1 push.
+// As it is: (d) as `expand::expand_prefixes`.
 pub fn to_bstring(op: u64, spec: &[u8], out: &mut [u8]) -> Written
     ensures { MeetsOne (to_bstring op spec.now) out.old out.new result.refusal result.record result.length }
 {

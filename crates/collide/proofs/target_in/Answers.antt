@@ -5,5 +5,5 @@ use Rattle.collide.proofs.target_in.Goals as goal
 pub returns-then-is_negative : goal.returns-then-is_negative
 returns-then-is_negative c = search negative-writes
 
-pub returns : goal.returns
-returns c = search target_writes
+pub returns-else-is_negative : goal.returns-else-is_negative
+returns-else-is_negative c = search target_writes

@@ -1,13 +1,10 @@
 -- `conflict::pair_size` meets its contract: one source is no conflict.
-use Rattle.conflict.proofs.Shares.{one_size, firsts-some, firsts-pair, two_size, two-small}
+use Rattle.conflict.proofs.Shares.{one_size, two_size, two-small}
 use borrow.Author.Rules.{rules}
 use Rattle.conflict.proofs.pair_size.Goals as goal
 
 pub returns-then-count-lt2 : goal.returns-then-count-lt2
 returns-then-count-lt2 c = (search one_size, search rules)
 
-pub listed_size-requires : goal.listed_size-requires
-listed_size-requires c = (search firsts-some, search rules, search firsts-pair)
-
-pub returns-else-count-lt2 : goal.returns-else-count-lt2
-returns-else-count-lt2 c = (search two_size, search two-small)
+pub returns : goal.returns
+returns c = (search two_size, search two-small)

@@ -8,14 +8,14 @@ use Rattle.expand.proofs.expand.Goals as goal
 pub yield_of-y-requires : goal.yield_of-y-requires
 yield_of-y-requires c = search remote-within
 
-pub yield_size-size-requires : goal.yield_size-size-requires
-yield_size-size-requires c = (search yield-within, search rules)
+pub size-size-requires : goal.size-size-requires
+size-size-requires c = (search yield-within, search rules)
 
 pub returns-then-out-size : goal.returns-then-out-size
 returns-then-out-size c = search (made-short, expand-list)
 
-pub put_yield-requires : goal.put_yield-requires
-put_yield-requires c = (search yield-within, search rules, search made-room)
+pub put-requires : goal.put-requires
+put-requires c = (search yield-within, search rules, search made-room)
 
 pub returns : goal.returns
 returns c = search (made-written, expand-list)

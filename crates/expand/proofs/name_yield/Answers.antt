@@ -1,21 +1,15 @@
 -- Each branch is one kind of name without a prefix. Assumes nothing.
-use Rattle.expand.proofs.Yields.{refs-length, yield-deeper, yield-itself, yield-object, yield-six}
+use Rattle.expand.proofs.Yields.{yield-deeper, yield-itself, yield-object, yield-six}
 use Rattle.expand.proofs.name_yield.Goals as goal
-
-pub slice_bounds-has_byte-count : goal.slice_bounds-has_byte-count
-slice_bounds-has_byte-count c = search refs-length
-
-pub slice_bounds-has_byte-start : goal.slice_bounds-has_byte-start
-slice_bounds-has_byte-start c = search refs-length
 
 pub returns-then-has_byte : goal.returns-then-has_byte
 returns-then-has_byte c = search yield-deeper
 
-pub returns-then-begins : goal.returns-then-begins
-returns-then-begins c = search yield-itself
+pub returns-else-has_byte : goal.returns-else-has_byte
+returns-else-has_byte c = search yield-itself
 
 pub returns-then-object_id : goal.returns-then-object_id
 returns-then-object_id c = search yield-object
 
-pub returns : goal.returns
-returns c = search yield-six
+pub returns-else-object_id : goal.returns-else-object_id
+returns-else-object_id c = search yield-six

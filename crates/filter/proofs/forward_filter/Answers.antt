@@ -1,11 +1,6 @@
 -- `filter::forward_filter` meets its contract: each needle has its filter.
-use Rattle.match_one.proofs.Onward.{needle-star-in}
 use Rattle.filter.proofs.Filters.{forward-absent, forward-glob, forward-full, forward-object, forward-part}
-use borrow.Author.Rules.{rules}
 use Rattle.filter.proofs.forward_filter.Goals as goal
-
-pub start_filter-requires : goal.start_filter-requires
-start_filter-requires c = (search rules, search needle-star-in)
 
 pub returns-in-Absent : goal.returns-in-Absent
 returns-in-Absent c = search forward-absent

@@ -1,14 +1,6 @@
 use native.Mathlib.Omega.{arith}
-use mathlib.Core.Path.{refl}
-use Rattle.filter.proofs.Looks.{passing-here, passing-more, passing-none, place-within}
-use borrow.Author.Rules.{rules}
+use Rattle.filter.proofs.Looks.{passing-here, passing-more, passing-none}
 use Rattle.filter.proofs.next_passing.Goals as goal
-
-pub loop-j-init : goal.loop-j-init
-loop-j-init c = (omega arith, refl)
-
-pub passes-requires : goal.passes-requires
-passes-requires c = (search rules, search place-within)
 
 pub returns-then-passes : goal.returns-then-passes
 returns-then-passes c = search passing-here

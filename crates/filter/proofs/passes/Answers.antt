@@ -1,6 +1,5 @@
 -- `filter::passes` meets its contract: the questions are asked one after the other.
-use Rattle.filter.proofs.Looks.{too_short, too_long, word_room, word-decides, frame-decides, size-decides}
-use native.Mathlib.Omega.{arith}
+use Rattle.filter.proofs.Looks.{too_short, too_long, word-decides, frame-decides, size-decides}
 use Rattle.filter.proofs.passes.Goals as goal
 
 pub returns-then-n-f : goal.returns-then-n-f
@@ -8,12 +7,6 @@ returns-then-n-f c = search too_short
 
 pub returns-then-f-n : goal.returns-then-f-n
 returns-then-f-n c = search too_long
-
-pub overflow_add-start : goal.overflow_add-start
-overflow_add-start c = omega (arith, c.requires.0 c.if-f.true)
-
-pub word-requires : goal.word-requires
-word-requires c = search word_room
 
 pub returns-then-f : goal.returns-then-f
 returns-then-f c = search word-decides

@@ -1,11 +1,6 @@
 -- `filter::reverse_filter` meets its contract: each destination has its filter.
-use Rattle.match_one.proofs.Onward.{target-star-in}
 use Rattle.filter.proofs.Filters.{reverse-absent, reverse-pattern, reverse-literal}
-use borrow.Author.Rules.{rules}
 use Rattle.filter.proofs.reverse_filter.Goals as goal
-
-pub start_filter-requires : goal.start_filter-requires
-start_filter-requires c = (search rules, search target-star-in)
 
 pub returns-in-Absent : goal.returns-in-Absent
 returns-in-Absent c = search reverse-absent

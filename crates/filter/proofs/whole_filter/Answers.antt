@@ -1,16 +1,6 @@
 -- `filter::whole_filter` meets its contract: what is a text has its bytes, and as many.
-use Rattle.parse.proofs.Parts.{part-within}
-use Rattle.filter.proofs.Filters.{whole-absent, whole_part, whole-head}
+use Rattle.filter.proofs.Filters.{whole-absent}
 use Rattle.filter.proofs.whole_filter.Goals as goal
-
-pub alike-requires : goal.alike-requires
-alike-requires c = search part-within
 
 pub returns-in-Absent : goal.returns-in-Absent
 returns-in-Absent c = search whole-absent
-
-pub returns-in-Part : goal.returns-in-Part
-returns-in-Part c = search whole_part
-
-pub returns-in-Head : goal.returns-in-Head
-returns-in-Head c = search whole-head

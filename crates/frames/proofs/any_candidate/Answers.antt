@@ -1,19 +1,15 @@
 -- `frames::any_candidate` meets its contract: a candidate of another size is not the name, and no two have one size.
-use Rattle.frames.proofs.Seeking.{too_short, no-frame, frame_small, frame-size, one_told}
-use borrow.Author.Rules.{rules}
+use native.Mathlib.Omega.{arith}
+use Rattle.frames.proofs.Seeking.{too_short, no-frame, one_told}
 use Rattle.frames.proofs.any_candidate.Goals as goal
 
-pub returns-then-name-t : goal.returns-then-name-t
-returns-then-name-t c = search too_short
+pub returns-in_default : goal.returns-in_default
+returns-in_default c = too_short c.args.t.now c.args.name.now (omega (arith, c.in_default.ensures))
 
-pub returns-then-k-eq-FRAMES : goal.returns-then-k-eq-FRAMES
-returns-then-k-eq-FRAMES c = search no-frame
+pub returns-in-Some-frame_adding : goal.returns-in-Some-frame_adding
+returns-in-Some-frame_adding c =
+    let k = c.in-Some-frame_adding.ensures in
+    one_told c.args.t.now c.args.name.now c.in-Some.d (omega (arith, c.in-Some.ensures)) c.in-Some-frame_adding.k k.0 k.1 c.is_framed.result c.is_framed.ensures
 
-pub leading_size-requires : goal.leading_size-requires
-leading_size-requires c = search frame_small
-
-pub has_pieces-requires : goal.has_pieces-requires
-has_pieces-requires c = (search frame_small, search rules, search frame-size)
-
-pub returns : goal.returns
-returns c = search one_told
+pub returns-in-None : goal.returns-in-None
+returns-in-None c = no-frame c.args.t.now c.args.name.now c.in-Some.d (omega (arith, c.in-Some.ensures)) c.in-None.ensures

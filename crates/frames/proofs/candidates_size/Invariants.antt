@@ -1,10 +1,6 @@
 -- `frames::candidates_size` meets its contract: what is measured and the records that are left make the whole.
-use Prim.Native.Nat.{◌-◌}
 use Rattle.frames.proofs.Candidates.{Measured}
 use Rattle.frames.proofs.candidates_size.Given as goal
 
 abbrev pub invariant-loop-k : goal.invariant-loop-k
 invariant-loop-k l = Measured l.name l.size l.k
-
-abbrev pub decreases-loop-k : goal.decreases-loop-k
-decreases-loop-k l = 6 - l.k

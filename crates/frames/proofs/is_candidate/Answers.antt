@@ -1,13 +1,18 @@
 -- `frames::is_candidate` meets its contract: a name of another size is no candidate, and any other is taken apart.
-use Rattle.frames.proofs.Seeking.{frame-fits, size-not, size_is}
-use borrow.Author.Rules.{rules}
+use mathlib.Core.Path.{sym, ap, ◌∙◌}
+use native.Mathlib.Omega.{arith}
+use borrow.Author.Tests.{ne_eqb}
+use lib.ListN.{length}
+use Rattle.frames.proofs.Seeking.{other-size}
 use Rattle.frames.proofs.is_candidate.Goals as goal
 
-pub overflow_add-f : goal.overflow_add-f
-overflow_add-f c = search frame-fits
+pub returns-in_default : goal.returns-in_default
+returns-in_default c =
+    let f = c.frame_of-f.ensures in
+    sym (other-size c.args.t.now c.args.name.now c.args.k c.requires (λ e. omega (arith, c.in_default.ensures, ap length f.0, ap length f.1)))
 
-pub returns-then-not-has_size : goal.returns-then-not-has_size
-returns-then-not-has_size c = search size-not
-
-pub has_pieces-requires : goal.has_pieces-requires
-has_pieces-requires c = (search rules, search rules, search size_is)
+pub returns-else-n-t : goal.returns-else-n-t
+returns-else-n-t c =
+    let f = c.frame_of-f.ensures in
+    ne_eqb c.in-Some.n (length c.args.t.now) c.if-n-t.false
+    ∙ sym (other-size c.args.t.now c.args.name.now c.args.k c.requires (λ e. omega (arith, c.in-Some.ensures, ap length f.0, ap length f.1)))

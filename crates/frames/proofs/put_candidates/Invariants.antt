@@ -1,10 +1,6 @@
 -- `frames::put_candidates` meets its contract: what is written and the records that are left make the whole.
-use Prim.Native.Nat.{◌-◌}
 use Rattle.frames.proofs.Candidates.{Listing}
 use Rattle.frames.proofs.put_candidates.Given as goal
 
 abbrev pub invariant-loop-k : goal.invariant-loop-k
 invariant-loop-k l = Listing l.initial.out l.at l.name l.out l.i l.k
-
-abbrev pub decreases-loop-k : goal.decreases-loop-k
-decreases-loop-k l = 6 - l.k

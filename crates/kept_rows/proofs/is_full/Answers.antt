@@ -1,9 +1,12 @@
--- It begins `refs/`, or is `HEAD`. Assumes nothing.
-use Rattle.kept_rows.proofs.Full.{full-refs, full-head}
+-- `kept_rows::is_full` meets its contract: it begins `refs/`, or is `HEAD`.
+use borrow.Author.Rules.{rules}
+use Rattle.meaning.specs.Validation.{is_full}
 use Rattle.kept_rows.proofs.is_full.Goals as goal
 
 pub returns-then-begins : goal.returns-then-begins
-returns-then-begins c = search full-refs
+unfolding is_full
+returns-then-begins c = search rules
 
-pub returns : goal.returns
-returns c = search full-head
+pub returns-else-begins : goal.returns-else-begins
+unfolding is_full
+returns-else-begins c = search rules

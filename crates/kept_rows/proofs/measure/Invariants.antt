@@ -5,8 +5,8 @@ use Rattle.kept_rows.specs.Rows.{kept_bytes, row_fix}
 use Rattle.kept_rows.proofs.Walks.{Counted}
 use Rattle.kept_rows.proofs.measure.Given as goal
 
-abbrev pub invariant-loop-row : goal.invariant-loop-row
-invariant-loop-row l = Counted l.specs l.rows kept_bytes l.c.at l.kept × Counted l.specs l.rows row_fix l.c.at l.fixed
+abbrev pub invariant-loop-r : goal.invariant-loop-r
+invariant-loop-r l = Counted l.specs l.rows kept_bytes l.c.at l.kept × Counted l.specs l.rows row_fix l.c.at l.fixed
 
-abbrev pub decreases-loop-row : goal.decreases-loop-row
-decreases-loop-row l = length l.rows - l.c.at
+abbrev pub decreases-loop-r : goal.decreases-loop-r
+decreases-loop-r l = length l.rows - l.c.at

@@ -3,11 +3,11 @@ use Rattle.match_group.proofs.Entry.{specs-ready, specs-askable, items-turned, i
 use borrow.Author.Rules.{rules}
 use Rattle.match_group.proofs.list_in.Goals as goal
 
-pub returns-then-c-ne0 : goal.returns-then-c-ne0
-returns-then-c-ne0 c = search items-turned
+pub returns-in-Err : goal.returns-in-Err
+returns-in-Err g c = search items-turned
 
 pub list_group-requires : goal.list_group-requires
-list_group-requires c =
+list_group-requires g c =
     let a = c.args in
     let group = c.requires.0 in
     let noted = c.note_group-count.ensures in (
@@ -17,9 +17,9 @@ list_group-requires c =
     )
 
 pub returns : goal.returns
-returns c =
+returns g c =
     let a = c.args in
     let noted = c.note_group-count.ensures in
-    let read = c.read_places-c.ensures in
+    let read = c.read_places.ensures in
     let listed = c.list_group.ensures in
-    rows-listed _ a.records a.n c.requires.0 _ _ _ noted a.back _ _ _ _ _ read (search rules) _ _ _ _ listed
+    rows-listed _ a.records a.n c.requires.0 _ _ _ noted g.D.Direction.back _ _ _ _ _ read _ (search rules) _ _ _ _ listed

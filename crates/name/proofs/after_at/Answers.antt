@@ -1,9 +1,12 @@
--- `name::after_at` meets its contract: nothing follows, or the byte is no brace.
-use Rattle.name.proofs.After.{at-end, at-brace}
+-- `name::after_at` meets its contract: each pattern is one beginning of the text.
+use Rattle.name.proofs.After.{at-none, at-brace, at-other}
+use Rattle.name.proofs.after_at.Goals.{in-123, in_default, in_default-2}
 use Rattle.name.proofs.after_at.Goals as goal
 
-pub returns-then-at-s : goal.returns-then-at-s
-returns-then-at-s c = search at-end
-
 pub returns : goal.returns
-returns c = search at-brace
+returns c =
+    elim c.if-matches.branch [
+      | in-123 w ↦ rw w.matches-is (search at-brace)
+      | in_default w ↦ rw w.matches-is (search at-none)
+      | in_default-2 w ↦ rw w.matches-is (search at-other)
+    ]

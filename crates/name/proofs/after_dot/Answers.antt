@@ -1,12 +1,12 @@
--- `name::after_dot` meets its contract: a byte follows, no dot, and not the rest of `.lock`.
-use Rattle.name.proofs.After.{dot-end, dot-two, dot-lock}
+-- `name::after_dot` meets its contract: each arm is one beginning of the text.
+use Rattle.name.proofs.After.{dot-none, dot-dot, dot-lock}
 use Rattle.name.proofs.after_dot.Goals as goal
 
-pub returns-then-at-s : goal.returns-then-at-s
-returns-then-at-s c = search dot-end
+pub returns-in-empty : goal.returns-in-empty
+returns-in-empty c = search dot-none
 
-pub returns-then-s-at-eq46 : goal.returns-then-s-at-eq46
-returns-then-s-at-eq46 c = search dot-two
+pub returns-in-empty-2 : goal.returns-in-empty-2
+returns-in-empty-2 c = search dot-dot
 
-pub returns : goal.returns
-returns c = search dot-lock
+pub returns-in_default : goal.returns-in_default
+returns-in_default c = search dot-lock

@@ -1,11 +1,11 @@
 -- `name::name_partial` meets its contract: a name opens well, and all its bytes stand.
-use Rattle.text.proofs.Rows.{fail-if-not, pass-if-not}
+use Rattle.text.proofs.Rows.{pass}
 use Rattle.name.proofs.Names.{name-row}
 use Rattle.name.proofs.Standing.{name-stands}
 use Rattle.name.proofs.name_partial.Goals as goal
 
-pub returns-then-not-opens : goal.returns-then-not-opens
-returns-then-not-opens c = rw name-row (search fail-if-not)
+pub returns-else-opens : goal.returns-else-opens
+returns-else-opens c = rw (name-row, ← c.opens.ensures, c.if-opens.false)
 
-pub returns : goal.returns
-returns c = rw name-row (search (pass-if-not, name-stands))
+pub returns-then-opens : goal.returns-then-opens
+returns-then-opens c = rw name-row (search (pass, name-stands))

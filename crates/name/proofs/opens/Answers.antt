@@ -3,10 +3,6 @@ use Rattle.meaning.specs.Names.{not_at}
 use Rattle.text.proofs.Rows.{row}
 use Rattle.name.proofs.opens.Goals as goal
 
-pub returns-then-not-after_slash : goal.returns-then-not-after_slash
+pub returns-then-after_slash : goal.returns-then-after_slash
 unfolding not_at
-returns-then-not-after_slash c = search row
-
-pub returns : goal.returns
-unfolding not_at
-returns c = search row
+returns-then-after_slash c = search row

@@ -6,7 +6,7 @@ use Rattle.name.specs.Rules.{standing}
 use Rattle.name.proofs.past_standing.Given as goal
 
 abbrev pub invariant-loop-i : goal.invariant-loop-i
-invariant-loop-i l = (l.i ≤ length l.s) × (l.i + standing (drop l.i l.s) ≡ l.from + standing (drop l.from l.s))
+invariant-loop-i l = (l.i ≤ length l.s) × (l.i + standing (drop l.i l.s) ≡ standing l.s)
 
 abbrev pub decreases-loop-i : goal.decreases-loop-i
 decreases-loop-i l = length l.s - l.i

@@ -1,9 +1,12 @@
 -- `name::rest_of_lock` meets its contract: its two questions, one after the other.
-use Rattle.name.proofs.After.{lock-whole, lock-slash}
+use borrow.Author.Rules.{rules}
+use Rattle.name.specs.Rules.{rest_of_lock}
 use Rattle.name.proofs.rest_of_lock.Goals as goal
 
 pub returns-then-same : goal.returns-then-same
-returns-then-same c = search lock-whole
+unfolding rest_of_lock
+returns-then-same c = rw (← c.same.ensures, c.if-same.true)
 
-pub returns : goal.returns
-returns c = search lock-slash
+pub returns-else-same : goal.returns-else-same
+unfolding rest_of_lock
+returns-else-same c = search rules

@@ -1,15 +1,9 @@
 -- `negatives::besides` meets its contract: both are patterns, or neither.
-use Rattle.negatives.proofs.Arms.{besides-globs, besides-source, besides-destination, besides-literals}
+use Rattle.negatives.proofs.Arms.{besides-alike, besides-other}
 use Rattle.negatives.proofs.besides.Goals as goal
 
-pub returns-then-is_glob-2 : goal.returns-then-is_glob-2
-returns-then-is_glob-2 c = search besides-globs
-
 pub returns-then-is_glob : goal.returns-then-is_glob
-returns-then-is_glob c = search besides-source
+returns-then-is_glob c = besides-alike _ _ _ _ c.is_glob.ensures c.is_glob-2.ensures c.if-is_glob.true
 
-pub returns-then-is_glob-3 : goal.returns-then-is_glob-3
-returns-then-is_glob-3 c = search besides-destination
-
-pub returns : goal.returns
-returns c = search besides-literals
+pub returns-else-is_glob : goal.returns-else-is_glob
+returns-else-is_glob c = besides-other _ _ _ _ c.is_glob.ensures c.is_glob-2.ensures c.if-is_glob.false

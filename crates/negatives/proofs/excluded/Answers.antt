@@ -1,22 +1,8 @@
-use mathlib.Core.Path.{refl}
-use native.Mathlib.Omega.{arith}
-use Rattle.negatives.proofs.Asking.{asking-room, asking-within, asking-found, asking-more, asking-done}
+use Rattle.negatives.proofs.Asking.{asking-found, asking-done}
 use Rattle.negatives.proofs.excluded.Goals as goal
-
-pub loop-k-init : goal.loop-k-init
-loop-k-init c = (omega arith, refl)
-
-pub negative_at-n-requires : goal.negative_at-n-requires
-negative_at-n-requires c = search asking-room
-
-pub matches-requires : goal.matches-requires
-matches-requires c = search asking-within
 
 pub returns-then-matches : goal.returns-then-matches
 returns-then-matches c = search asking-found
-
-pub loop-k-preserved : goal.loop-k-preserved
-loop-k-preserved c = (omega arith, search asking-more)
 
 pub returns : goal.returns
 returns c = search asking-done

@@ -8,5 +8,5 @@ returns-then-n-lt128 c = search size-one
 pub returns-then-n-lt-TWO_GROUPS : goal.returns-then-n-lt-TWO_GROUPS
 returns-then-n-lt-TWO_GROUPS c = search size-two
 
-pub returns : goal.returns
-returns c = search size-three
+pub returns-else-n-lt-TWO_GROUPS : goal.returns-else-n-lt-TWO_GROUPS
+returns-else-n-lt-TWO_GROUPS c = search size-three

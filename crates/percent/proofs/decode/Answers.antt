@@ -1,10 +1,10 @@
 -- What was measured says whether there is a text to write. Assumes nothing.
-use Rattle.percent.proofs.Walks.{size-right, fault-none}
-use borrow.Author.Rules.{rules}
+use mathlib.Core.Path.{sym, ◌∙◌}
+use Rattle.std.proofs.lemmas.Result.{err_from_is_err_and}
+use Rattle.percent.proofs.Walks.{fault-none}
 use Rattle.percent.proofs.decode.Goals as goal
 
-pub put_text-requires : goal.put_text-requires
-put_text-requires c = (search size-right, search rules)
-
-pub returns-in-Fault : goal.returns-in-Fault
-returns-in-Fault c = record { tells = search rules; puts = search fault-none }
+pub returns-in_err-n : goal.returns-in_err-n
+returns-in_err-n c =
+    let p = err_from_is_err_and c.from_residual.result c.from_residual.ensures.1 in
+    rw (p.1, p.2) (record { tells = sym c.in_err-n.was ∙ c.measure.ensures; puts = search (fault-none, c.in_err-n.was) })

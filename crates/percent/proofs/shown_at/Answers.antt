@@ -1,21 +1,16 @@
 -- A byte as it is, one as an escape, or a fault. Assumes nothing.
-use Rattle.std.proofs.Common.{◌≡◌, false, not, refl}
-use Rattle.percent.proofs.Steps.{step-plain, step-short, step-bad, step-escape, escape-first, escape-second}
+use Rattle.percent.proofs.Steps.{step-plain, step-unsigned, step-short, step-bad, step-escape}
+use Rattle.percent.proofs.shown_at.Goals.{then-b-ne37-via-then-b-ne37, then-b-ne37-via-else-b-ne37+then-t-i-lt3}
 use Rattle.percent.proofs.shown_at.Goals as goal
 
 pub returns-then-is_plain : goal.returns-then-is_plain
 returns-then-is_plain c = search step-plain
 
-pub returns-then-t-i-lt3 : goal.returns-then-t-i-lt3
-returns-then-t-i-lt3 c = search step-short
+pub returns-then-b-ne37 : goal.returns-then-b-ne37
+returns-then-b-ne37 c = elim c.then-b-ne37.branch [ then-b-ne37-via-then-b-ne37 w ↦ search step-unsigned | then-b-ne37-via-else-b-ne37+then-t-i-lt3 w ↦ search step-short ]
 
-pub returns-then-not-is_escape : goal.returns-then-not-is_escape
-returns-then-not-is_escape c = search step-bad
-
-pub escaped-requires : goal.escaped-requires
-escaped-requires c =
-    let q : not c.is_escape.result ≡ false = rw c.if-not-is_escape.false refl in
-    (escape-first _ _ _ _ c.is_escape.ensures q, escape-second _ _ _ _ c.is_escape.ensures q)
+pub returns-in_err-byte : goal.returns-in_err-byte
+returns-in_err-byte c = rw c.from_residual.ensures (search (step-bad, c.in_err-byte.was))
 
 pub returns : goal.returns
-returns c = search step-escape
+returns c = search (step-escape, c.in_ok-byte.was)

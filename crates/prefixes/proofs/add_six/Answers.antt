@@ -1,15 +1,5 @@
-use Rattle.prefixes.proofs.Adding.{adding-starts, adding-entries, adding-room, adding-more, adding-whole}
-use borrow.Author.Rules.{rules}
+use Rattle.prefixes.proofs.Adding.{adding-more}
 use Rattle.prefixes.proofs.add_six.Goals as goal
 
-pub loop-k-init : goal.loop-k-init
-loop-k-init c = search adding-starts
-
-pub add-c-requires : goal.add-c-requires
-add-c-requires c = (search adding-entries, search rules, search adding-room, search rules)
-
-pub loop-k-preserved : goal.loop-k-preserved
-loop-k-preserved c = search adding-more
-
-pub returns : goal.returns
-returns c = search adding-whole
+pub loop-frame-preserved : goal.loop-frame-preserved
+loop-frame-preserved c = search adding-more

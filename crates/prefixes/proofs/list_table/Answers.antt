@@ -5,5 +5,5 @@ use Rattle.prefixes.proofs.list_table.Goals as goal
 pub returns-then-out-size : goal.returns-then-out-size
 returns-then-out-size c = search made-short
 
-pub returns : goal.returns
-returns c = search made-written
+pub returns-else-out-size : goal.returns-else-out-size
+returns-else-out-size c = search made-written

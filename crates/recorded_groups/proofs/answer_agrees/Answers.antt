@@ -1,13 +1,11 @@
 -- `answer_agrees` meets its contract: the forward listing stands before the rest of the answer. Assumes nothing.
-use Rattle.recorded_groups.proofs.Answers.{lhs-within, answer-differs, answer-whole}
-use borrow.Author.Rules.{rules}
+use Rattle.number.proofs.Round.{octets-of}
+use Rattle.recorded_groups.proofs.Fields.{lhs-found}
+use Rattle.recorded_groups.proofs.Answers.{answer-differs, answer-whole}
 use Rattle.recorded_groups.proofs.answer_agrees.Goals as goal
 
-pub back_agrees-requires : goal.back_agrees-requires
-back_agrees-requires c = (search lhs-within, search rules)
+pub returns-in-Some : goal.returns-in-Some
+returns-in-Some c = let o = octets-of c.args.told.now c.type_inv.told in search (answer-whole, lhs-found)
 
-pub returns-in-At : goal.returns-in-At
-returns-in-At c = search answer-whole
-
-pub returns-in-Differs : goal.returns-in-Differs
-returns-in-Differs c = search answer-differs
+pub returns-in-None : goal.returns-in-None
+returns-in-None c = let o = octets-of c.args.told.now c.type_inv.told in search (answer-differs, lhs-found)

@@ -1,9 +1,6 @@
--- Each turn counts at most one record, and the turns that are left fall. Assumes nothing.
-use Rattle.std.proofs.Common.{◌+◌, ◌≤◌}
+-- Each turn counts at most one record, and no more differ than were read: of the tally, `0` is what was read, `1.0` what differs. Assumes nothing.
+use Rattle.std.proofs.Common.{◌≤◌}
 use Rattle.replaying.proofs.replayed.Given as goal
 
-abbrev pub invariant-loop-turns : goal.invariant-loop-turns
-invariant-loop-turns g l = (l.t.read + l.turns ≤ 18446744073709551615) × (l.t.differ ≤ l.t.read)
-
-abbrev pub decreases-loop-turns : goal.decreases-loop-turns
-decreases-loop-turns g l = l.turns
+abbrev pub invariant-loop-turn : goal.invariant-loop-turn
+invariant-loop-turn g l = (l.t.0 ≤ l._turn) × (l.t.1.0 ≤ l.t.0)

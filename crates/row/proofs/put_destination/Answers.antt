@@ -1,16 +1,16 @@
--- Absent, a destination is one byte; else it is written as one that is there. Assumes nothing.
-use Rattle.row.proofs.Rows.{none-room, none-put, none_end, some-room, some-put, some_end}
+-- Absent, a destination is one byte; else its bytes are written right after their length plus 1. Assumes nothing.
+use Rattle.row.proofs.Rows.{none-put, none_end, some-first, some-second, some-put, some_end}
 use borrow.Author.Rules.{rules}
 use Rattle.row.proofs.put_destination.Goals as goal
 
-pub put-requires : goal.put-requires
-put-requires c = (search rules, search none-room)
+pub returns-in-Absent : goal.returns-in-Absent
+returns-in-Absent c = (search none-put, search none_end)
 
-pub returns-then-is_absent : goal.returns-then-is_absent
-returns-then-is_absent c = (search none-put, search none_end)
+pub put-i-requires : goal.put-i-requires
+put-i-requires c = (search rules, search some-first)
 
-pub put_present-requires : goal.put_present-requires
-put_present-requires c = (search rules, search rules, search some-room)
+pub put_row_text-requires : goal.put_row_text-requires
+put_row_text-requires c = (search rules, search some-second)
 
-pub returns : goal.returns
-returns c = (search some-put, search some_end)
+pub returns-in_default : goal.returns-in_default
+returns-in_default c = (search some-put, search some_end)

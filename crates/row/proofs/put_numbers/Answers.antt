@@ -1,16 +1,11 @@
 -- Each number is written right after the one before it. Assumes nothing.
-use Rattle.buffer.proofs.Threes.{three-first, three-second, three_third, three-put, three-end}
+use Rattle.buffer.proofs.Threes.{three-first}
+use Rattle.row.proofs.Rows.{kind-put, kind-end}
 use borrow.Author.Rules.{rules}
 use Rattle.row.proofs.put_numbers.Goals as goal
 
 pub put-i-requires : goal.put-i-requires
 put-i-requires c = (search rules, search three-first)
 
-pub put-j-requires : goal.put-j-requires
-put-j-requires c = (search rules, search three-second)
-
-pub put-requires : goal.put-requires
-put-requires c = (search rules, search three_third)
-
 pub returns : goal.returns
-returns c = (search three-put, search three-end)
+returns c = (search kind-put, search kind-end)

@@ -4,7 +4,7 @@ use borrow.Author.Rules.{rules}
 use Rattle.row.proofs.put_row.Goals as goal
 
 pub put_numbers-i-requires : goal.put_numbers-i-requires
-put_numbers-i-requires c = (search rules, search rules, search rules, search row_first)
+put_numbers-i-requires c = (search rules, search rules, search row_first)
 
 pub put_source-j-requires : goal.put_source-j-requires
 put_source-j-requires c = (search rules, search rules, search row-second)

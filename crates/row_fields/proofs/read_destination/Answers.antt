@@ -3,10 +3,10 @@ use Rattle.row_fields.proofs.Fields.{number-within, number-room, destination-nex
 use Rattle.row_fields.proofs.read_destination.Goals as goal
 
 pub destination_after-requires : goal.destination_after-requires
-destination_after-requires c = (search number-within, search number-room)
+destination_after-requires c = (search (number-within, c.in_ok-n.was), search (number-room, c.in_ok-n.was))
 
-pub returns-in-Some : goal.returns-in-Some
-returns-in-Some c = search destination-next
+pub returns : goal.returns
+returns c = search (destination-next, c.in_ok-n.was)
 
-pub returns-in-None : goal.returns-in-None
-returns-in-None c = search destination-stop
+pub returns-in_err-n : goal.returns-in_err-n
+returns-in_err-n c = rw c.from_residual.ensures (search (destination-stop, c.in_err-n.was))

@@ -1,17 +1,12 @@
-use Rattle.row_list.proofs.RowSteps.{rows_start, rows-less, rows_more, rows_all, rows-stop}
+use Rattle.std.proofs.lemmas.Result.{err_from_is_err_and}
+use Rattle.row_list.proofs.RowSteps.{rows_more, rows_all, rows-stop}
 use Rattle.row_list.proofs.each_row.Goals as goal
 
-pub loop-next-init : goal.loop-next-init
-loop-next-init c = search rows_start
+pub loop-r-preserved : goal.loop-r-preserved
+loop-r-preserved c = search (rows_more, c.in_ok-r.was)
 
-pub loop-next-smaller : goal.loop-next-smaller
-loop-next-smaller c = search rows-less
+pub returns : goal.returns
+returns c = search (rows_all, c.in_ok-r.was)
 
-pub loop-next-preserved : goal.loop-next-preserved
-loop-next-preserved c = search rows_more
-
-pub returns-in-End : goal.returns-in-End
-returns-in-End c = search rows_all
-
-pub returns-in-Refused : goal.returns-in-Refused
-returns-in-Refused c = search rows-stop
+pub returns-in_err-r : goal.returns-in_err-r
+returns-in_err-r c = let p = err_from_is_err_and c.from_residual.result c.from_residual.ensures.1 in rw (p.1, p.2) (search (rows-stop, c.in_err-r.was))

@@ -5,8 +5,8 @@ use Rattle.meaning.specs.Rows.{row_record}
 use Rattle.list.proofs.Readings.{Reading}
 use Rattle.row_list.proofs.each_row.Given as goal
 
-abbrev pub invariant-loop-next : goal.invariant-loop-next
-invariant-loop-next l = Reading (row_record l.specs) l.list l.c.at l.count
+abbrev pub invariant-loop-r : goal.invariant-loop-r
+invariant-loop-r l = Reading (row_record l.specs) l.list l.c.at l.count
 
-abbrev pub decreases-loop-next : goal.decreases-loop-next
-decreases-loop-next l = length l.list - l.c.at
+abbrev pub decreases-loop-r : goal.decreases-loop-r
+decreases-loop-r l = length l.list - l.c.at

@@ -2,8 +2,8 @@
 use Rattle.row_list.proofs.RowQuestions.{digits-other, digits-many}
 use Rattle.row_list.proofs.object_digits.Goals as goal
 
-pub returns-then-n-ne-ID_DIGITS : goal.returns-then-n-ne-ID_DIGITS
-returns-then-n-ne-ID_DIGITS c = search digits-other
+pub returns-else-t-eq-ID_DIGITS : goal.returns-else-t-eq-ID_DIGITS
+returns-else-t-eq-ID_DIGITS c = search digits-other
 
-pub returns : goal.returns
-returns c = search digits-many
+pub returns-then-t-eq-ID_DIGITS : goal.returns-then-t-eq-ID_DIGITS
+returns-then-t-eq-ID_DIGITS c = search digits-many

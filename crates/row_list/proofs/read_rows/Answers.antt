@@ -3,7 +3,7 @@ use Rattle.row_list.proofs.RowSteps.{rows-too-long, rows_are}
 use Rattle.row_list.proofs.read_rows.Goals as goal
 
 pub returns-then-list-gt-ROW_LIST_BYTES : goal.returns-then-list-gt-ROW_LIST_BYTES
-returns-then-list-gt-ROW_LIST_BYTES c = search rows-too-long
+returns-then-list-gt-ROW_LIST_BYTES c = rw c.of_list.ensures (search rows-too-long)
 
 pub returns : goal.returns
 returns c = search rows_are

@@ -1,9 +1,9 @@
--- The text is the side's. Assumes nothing.
-use Rattle.row_text.proofs.Writes.{room_as, put_as, end-as, led-side}
+-- The side, which is lent, stands right after what leads it. Assumes nothing.
+use Rattle.row_text.proofs.Writes.{body-lower, body-plain, led-put, led-end}
 use Rattle.row_text.proofs.put_led.Goals as goal
 
-pub put_led_text-requires : goal.put_led_text-requires
-put_led_text-requires c = search (room_as, led-side)
+pub returns-then-lowers : goal.returns-then-lowers
+returns-then-lowers c = (search (led-put, body-lower), search (led-end, body-lower))
 
-pub returns : goal.returns
-returns c = (search (put_as, led-side), search (end-as, led-side))
+pub returns-else-lowers : goal.returns-else-lowers
+returns-else-lowers c = (search (led-put, body-plain), search (led-end, body-plain))

@@ -1,13 +1,6 @@
 -- No bytes are nothing to write; else the part that is lent is the bytes from the place on. Assumes nothing.
-use Rattle.parse.proofs.Parts.{part_of}
-use Rattle.row_text.proofs.Writes.{room_as, put_as, end-as, no-part-put, no-part-end}
+use Rattle.row_text.proofs.Writes.{no-part-put, no-part-end}
 use Rattle.row_text.proofs.put_part.Goals as goal
 
 pub returns-then-n-eq0 : goal.returns-then-n-eq0
 returns-then-n-eq0 c = (search no-part-put, search no-part-end)
-
-pub put-requires : goal.put-requires
-put-requires c = search (room_as, part_of)
-
-pub returns : goal.returns
-returns c = (search (put_as, part_of), search (end-as, part_of))

@@ -3,10 +3,10 @@ use Rattle.spec_list.proofs.SpecReadings.{specs-no-operation, specs-too-long, sp
 use Rattle.spec_list.proofs.check_specs.Goals as goal
 
 pub returns-then-op-gt1 : goal.returns-then-op-gt1
-returns-then-op-gt1 c = search specs-no-operation
+returns-then-op-gt1 c = rw c.of_list.ensures (search specs-no-operation)
 
 pub returns-then-list-gt-SPEC_LIST_BYTES : goal.returns-then-list-gt-SPEC_LIST_BYTES
-returns-then-list-gt-SPEC_LIST_BYTES c = search specs-too-long
+returns-then-list-gt-SPEC_LIST_BYTES c = rw c.of_list-then-list-gt-SPEC_LIST_BYTES.ensures (search specs-too-long)
 
 pub returns : goal.returns
 returns c = search specs-are

@@ -5,8 +5,8 @@ use Rattle.meaning.specs.Lists.{spec_record}
 use Rattle.list.proofs.Readings.{Reading}
 use Rattle.spec_list.proofs.each_checked.Given as goal
 
-abbrev pub invariant-loop-next : goal.invariant-loop-next
-invariant-loop-next l = Reading (spec_record l.op) l.list l.c.at l.count
+abbrev pub invariant-loop-r : goal.invariant-loop-r
+invariant-loop-r l = Reading (spec_record l.op) l.list l.c.at l.count
 
-abbrev pub decreases-loop-next : goal.decreases-loop-next
-decreases-loop-next l = length l.list - l.c.at
+abbrev pub decreases-loop-r : goal.decreases-loop-r
+decreases-loop-r l = length l.list - l.c.at

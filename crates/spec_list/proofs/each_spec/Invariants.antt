@@ -4,8 +4,8 @@ use lib.ListN.{length}
 use Rattle.spec_list.proofs.Groups.{Filling}
 use Rattle.spec_list.proofs.each_spec.Given as goal
 
-abbrev pub invariant-loop-spec : goal.invariant-loop-spec
-invariant-loop-spec l = Filling l.op l.list l.specs l.c.at l.count
+abbrev pub invariant-loop-r : goal.invariant-loop-r
+invariant-loop-r l = Filling l.op l.list l.specs l.c.at l.count
 
-abbrev pub decreases-loop-spec : goal.decreases-loop-spec
-decreases-loop-spec l = length l.list - l.c.at
+abbrev pub decreases-loop-r : goal.decreases-loop-r
+decreases-loop-r l = length l.list - l.c.at

@@ -1,23 +1,6 @@
 -- `text_lists::add_line` meets its contract: each kind of line adds what it holds, or nothing.
 use Rattle.text_lists.proofs.Growth.{line-nothing, line-fetch, line-push, line-name, line-shown, line_marked, line-unknown}
-use Rattle.text_lists.proofs.LineKinds.{fetch-within, name-within, shown-within}
-use borrow.Author.Rules.{rules}
 use Rattle.text_lists.proofs.add_line.Goals as goal
-
-pub slice_bounds-add_spec-start : goal.slice_bounds-add_spec-start
-slice_bounds-add_spec-start c = search fetch-within
-
-pub slice_bounds-add_name-count : goal.slice_bounds-add_name-count
-slice_bounds-add_name-count c = search (rules, name-within)
-
-pub slice_bounds-add_name-start : goal.slice_bounds-add_name-start
-slice_bounds-add_name-start c = search name-within
-
-pub slice_bounds-add_shown-count : goal.slice_bounds-add_shown-count
-slice_bounds-add_shown-count c = search (rules, shown-within)
-
-pub slice_bounds-add_shown-start : goal.slice_bounds-add_shown-start
-slice_bounds-add_shown-start c = search shown-within
 
 pub returns-in-Nothing : goal.returns-in-Nothing
 returns-in-Nothing c = search line-nothing

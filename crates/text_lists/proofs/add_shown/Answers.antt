@@ -6,8 +6,8 @@ use Rattle.text_lists.proofs.add_shown.Goals as goal
 pub add_first-requires : goal.add_first-requires
 add_first-requires c = (search shown-room, search rules, search rules)
 
-pub returns-in-Size : goal.returns-in-Size
-returns-in-Size c = search shown-added
+pub returns-in-Ok : goal.returns-in-Ok
+returns-in-Ok c = search shown-added
 
-pub returns-in-Fault : goal.returns-in-Fault
-returns-in-Fault c = search shown-refused
+pub returns-in-Err : goal.returns-in-Err
+returns-in-Err c = search shown-refused

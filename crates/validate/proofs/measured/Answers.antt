@@ -2,8 +2,8 @@
 use Rattle.validate.proofs.Entry.{kept-short, fixes-short}
 use Rattle.validate.proofs.measured.Goals as goal
 
-pub returns-then-out-kept : goal.returns-then-out-kept
-returns-then-out-kept c = search kept-short
+pub returns-then-out-n : goal.returns-then-out-n
+returns-then-out-n c = search kept-short
 
-pub returns-then-fixes-fixed : goal.returns-then-fixes-fixed
-returns-then-fixes-fixed c = search fixes-short
+pub returns-then-fixes-n : goal.returns-then-fixes-n
+returns-then-fixes-n c = search fixes-short

@@ -3,8 +3,8 @@ use Rattle.view.proofs.Objects.{object-within, object-read, object-refused}
 use borrow.Author.Rules.{rules}
 use Rattle.view.proofs.object_part.Goals as goal
 
-pub read_digits-requires : goal.read_digits-requires
-read_digits-requires c = (search rules, search object-within)
+pub side_digits-requires : goal.side_digits-requires
+side_digits-requires c = (search rules, search object-within)
 
 pub returns-in-Ok : goal.returns-in-Ok
 returns-in-Ok c = search object-read

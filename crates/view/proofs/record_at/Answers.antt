@@ -1,9 +1,6 @@
-use Rattle.view.proofs.Walks.{walk-starts, walk_more, walk_ends}
+use Rattle.view.proofs.Walks.{walk_more, walk_ends}
 use borrow.Author.Rules.{rules}
 use Rattle.view.proofs.record_at.Goals as goal
-
-pub loop-i-init : goal.loop-i-init
-loop-i-init c = search walk-starts
 
 pub loop-i-preserved : goal.loop-i-preserved
 loop-i-preserved c = search walk_more

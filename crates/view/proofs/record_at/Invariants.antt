@@ -1,10 +1,6 @@
 -- `view::record_at` meets its contract: the walk that is left leads to the same record.
-use Prim.Native.Nat.{◌-◌}
 use Rattle.view.proofs.Walks.{Walk}
 use Rattle.view.proofs.record_at.Given as goal
 
 abbrev pub invariant-loop-i : goal.invariant-loop-i
-invariant-loop-i l = Walk l.list l.n l.i l.at
-
-abbrev pub decreases-loop-i : goal.decreases-loop-i
-decreases-loop-i l = l.n - l.i
+invariant-loop-i l = Walk l.list l.n l._i l.at

@@ -1,9 +1,6 @@
 -- `view::view` meets its contract: the part is out of the list that the field chooses, and in it.
-use Rattle.view.proofs.Slices.{view-number, view-record, view-none, view-specs-room, view-specs, view-items-room, view-items}
+use Rattle.view.proofs.Slices.{view-number, view-record, view-specs-room, view-specs, view-items-room, view-items}
 use Rattle.view.proofs.view.Goals as goal
-
-pub returns-then-p-ne0 : goal.returns-then-p-ne0
-returns-then-p-ne0 c = (search view-none, search view-number, search view-record)
 
 pub bytes-requires-then-item_field-eq0 : goal.bytes-requires-then-item_field-eq0
 bytes-requires-then-item_field-eq0 c = search view-specs-room

@@ -4,14 +4,14 @@ use Rattle.write.proofs.Texts.{pieces-within, canonical-is}
 use borrow.Author.Rules.{rules}
 use Rattle.write.proofs.write_to.Goals as goal
 
-pub pieces_size-size-requires : goal.pieces_size-size-requires
-pieces_size-size-requires c = (search pieces-within, search rules)
+pub size-size-requires : goal.size-size-requires
+size-size-requires c = (search pieces-within, search rules)
 
 pub returns-then-out-size : goal.returns-then-out-size
 returns-then-out-size c = search (made-short, canonical-is)
 
-pub put_pieces-requires : goal.put_pieces-requires
-put_pieces-requires c = (search pieces-within, search made-room)
+pub put-requires : goal.put-requires
+put-requires c = (search pieces-within, search made-room)
 
 pub returns : goal.returns
 returns c = search (made-written, canonical-is)

@@ -5,5 +5,5 @@ use Rattle.collide.proofs.answer.destination.Goals as goal
 pub returns-then-out-size : goal.returns-then-out-size
 returns-then-out-size c = search short-told
 
-pub returns : goal.returns
-returns c = search written-told
+pub returns-else-out-size : goal.returns-else-out-size
+returns-else-out-size c = search written-told

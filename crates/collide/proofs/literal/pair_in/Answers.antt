@@ -6,5 +6,5 @@ use Rattle.collide.proofs.literal.pair_in.Goals as goal
 pub returns-then-pieces_glob : goal.returns-then-pieces_glob
 returns-then-pieces_glob c = search (shares_as, in_some)
 
-pub returns : goal.returns
-returns c = search (none_told, in-none)
+pub returns-else-pieces_glob : goal.returns-else-pieces_glob
+returns-else-pieces_glob c = search (none_told, in-none)

@@ -2,5 +2,5 @@
 use Rattle.collide.proofs.Pieces.{pairs-swap}
 use Rattle.collide.proofs.literal.pairs_same.Goals as goal
 
-pub returns : goal.returns
-returns c = search pairs-swap
+pub returns-else-a-c : goal.returns-else-a-c
+returns-else-a-c c = search pairs-swap

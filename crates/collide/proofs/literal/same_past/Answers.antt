@@ -2,8 +2,8 @@
 use Rattle.collide.proofs.Pieces.{past-not, past-on}
 use Rattle.collide.proofs.literal.same_past.Goals as goal
 
-pub returns-then-not-pieces_same : goal.returns-then-not-pieces_same
-returns-then-not-pieces_same c = search past-not
+pub returns-then-pieces_same : goal.returns-then-pieces_same
+returns-then-pieces_same c = search past-on
 
-pub returns : goal.returns
-returns c = search past-on
+pub returns-else-pieces_same : goal.returns-else-pieces_same
+returns-else-pieces_same c = search past-not

@@ -9,5 +9,5 @@ returns-then-begins c = search (shares_as, start-second)
 pub returns-then-begins-2 : goal.returns-then-begins-2
 returns-then-begins-2 c = search (shares_as, start_first)
 
-pub returns : goal.returns
-returns c = search (none_told, start-neither)
+pub returns-else-begins-2 : goal.returns-else-begins-2
+returns-else-begins-2 c = search (none_told, start-neither)

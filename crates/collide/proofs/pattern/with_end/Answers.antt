@@ -9,5 +9,5 @@ returns-then-ends c = search (shares_as, end-second)
 pub returns-then-ends-2 : goal.returns-then-ends-2
 returns-then-ends-2 c = search (shares_as, end-first)
 
-pub returns : goal.returns
-returns c = search (none_told, end-neither)
+pub returns-else-ends-2 : goal.returns-else-ends-2
+returns-else-ends-2 c = search (none_told, end-neither)

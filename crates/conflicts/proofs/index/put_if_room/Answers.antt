@@ -1,16 +1,19 @@
 -- `conflicts::index::put_if_room` meets its contract: the index that was measured is as it was when it is written.
-use Rattle.conflicts.proofs.Wholes.{index-again, none-put, none-size, short-left, whole-put}
+use mathlib.Core.Path.{◌≡◌}
+use native.Mathlib.Omega.{arith}
+use Rattle.conflicts.proofs.Wholes.{none-put, short-left, whole-put}
 use borrow.Author.Rules.{rules}
+use Rattle.conflicts.proofs.index.put_if_room.Goals.{else-size-gt0-via-then-size-gt0+else-size-out, else-size-gt0-via-else-size-gt0}
 use Rattle.conflicts.proofs.index.put_if_room.Goals as goal
 
-pub returns-then-size-eq0 : goal.returns-then-size-eq0
-returns-then-size-eq0 c = (search none-size, search none-put)
+pub returns-then-size-out : goal.returns-then-size-out
+returns-then-size-out c = (search rules, search whole-put)
 
-pub returns-then-out-size : goal.returns-then-out-size
-returns-then-out-size c = (search rules, search short-left)
-
-pub put_sorted-requires : goal.put_sorted-requires
-put_sorted-requires c = (search rules, search index-again, search rules, search rules, search rules)
-
-pub returns : goal.returns
-returns c = (search rules, search whole-put)
+pub returns-else-size-gt0 : goal.returns-else-size-gt0
+returns-else-size-gt0 c = (
+  search rules,
+  elim c.else-size-gt0.branch [
+    | else-size-gt0-via-then-size-gt0+else-size-out w ↦ search short-left
+    | else-size-gt0-via-else-size-gt0 w ↦ let z : c.sorted_size-size.result ≡ 0 = omega arith in search none-put
+  ],
+)

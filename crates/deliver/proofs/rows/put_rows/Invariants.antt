@@ -4,8 +4,8 @@ use lib.ListN.{length}
 use Rattle.deliver.proofs.Walks.{WrittenRows}
 use Rattle.deliver.proofs.rows.put_rows.Given as goal
 
-abbrev pub invariant-loop-row : goal.invariant-loop-row
-invariant-loop-row l = WrittenRows l.initial.out l.initial.i l.list l.c.at l.out l.i
+abbrev pub invariant-loop-r : goal.invariant-loop-r
+invariant-loop-r l = WrittenRows l.initial.out l.initial.i l.list l.c.at l.out l.i
 
-abbrev pub decreases-loop-row : goal.decreases-loop-row
-decreases-loop-row l = length l.list - l.c.at
+abbrev pub decreases-loop-r : goal.decreases-loop-r
+decreases-loop-r l = length l.list - l.c.at

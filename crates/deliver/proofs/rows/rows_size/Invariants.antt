@@ -4,8 +4,8 @@ use lib.ListN.{length}
 use Rattle.deliver.proofs.Walks.{Measured}
 use Rattle.deliver.proofs.rows.rows_size.Given as goal
 
-abbrev pub invariant-loop-row : goal.invariant-loop-row
-invariant-loop-row l = Measured l.list l.c.at l.size
+abbrev pub invariant-loop-r : goal.invariant-loop-r
+invariant-loop-r l = Measured l.list l.c.at l.size
 
-abbrev pub decreases-loop-row : goal.decreases-loop-row
-decreases-loop-row l = length l.list - l.c.at
+abbrev pub decreases-loop-r : goal.decreases-loop-r
+decreases-loop-r l = length l.list - l.c.at

@@ -1,12 +1,9 @@
 -- `glob::pieces::two_end` meets its contract: q is within the last piece, or ends with it and what is before ends the others.
-use Rattle.glob.proofs.Joined.{taken-before, ends-short, ends-not, ends_on}
+use Rattle.glob.proofs.Joined.{ends-short, ends-not, ends_on}
 use Rattle.glob.proofs.pieces.two_end.Goals as goal
 
 pub returns-then-q-b : goal.returns-then-q-b
 returns-then-q-b c = search ends-short
-
-pub slice_bounds-ends-length : goal.slice_bounds-ends-length
-slice_bounds-ends-length c = search taken-before
 
 pub returns-then-not-ends : goal.returns-then-not-ends
 returns-then-not-ends c = search ends-not

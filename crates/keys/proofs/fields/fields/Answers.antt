@@ -2,8 +2,8 @@
 use Rattle.keys.proofs.Rows.{row-found, none_found}
 use Rattle.keys.proofs.fields.fields.Goals as goal
 
-pub returns-in-Row : goal.returns-in-Row
-returns-in-Row c = search row-found
+pub returns-in-Some : goal.returns-in-Some
+returns-in-Some c = search row-found
 
-pub returns-in-Malformed : goal.returns-in-Malformed
-returns-in-Malformed c = search none_found
+pub returns-in-None : goal.returns-in-None
+returns-in-None c = search none_found

@@ -5,8 +5,8 @@ use Rattle.meaning.specs.Lists.{item_record}
 use Rattle.list.proofs.Readings.{Reading}
 use Rattle.list.proofs.items.each_item.Given as goal
 
-abbrev pub invariant-loop-next : goal.invariant-loop-next
-invariant-loop-next l = Reading item_record l.list l.c.at l.count
+abbrev pub invariant-loop-r : goal.invariant-loop-r
+invariant-loop-r l = Reading item_record l.list l.c.at l.count
 
-abbrev pub decreases-loop-next : goal.decreases-loop-next
-decreases-loop-next l = length l.list - l.c.at
+abbrev pub decreases-loop-r : goal.decreases-loop-r
+decreases-loop-r l = length l.list - l.c.at

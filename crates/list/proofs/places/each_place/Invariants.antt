@@ -7,8 +7,8 @@ use Rattle.list.proofs.Readings.{Reading}
 use Rattle.list.proofs.Standing.{Standing, Written}
 use Rattle.list.proofs.places.each_place.Given as goal
 
-abbrev pub invariant-loop-start : goal.invariant-loop-start
-invariant-loop-start l = Reading item_record l.list l.c.at l.count × Standing l.list l.places l.c.at l.count × (length l.places ≡ length l.initial.places) × Written l.list l.initial.places l.places l.c.at l.count
+abbrev pub invariant-loop-r : goal.invariant-loop-r
+invariant-loop-r l = Reading item_record l.list l.c.at l.count × Standing l.list l.places l.c.at l.count × (length l.places ≡ length l.initial.places) × Written l.list l.initial.places l.places l.c.at l.count
 
-abbrev pub decreases-loop-start : goal.decreases-loop-start
-decreases-loop-start l = length l.list - l.c.at
+abbrev pub decreases-loop-r : goal.decreases-loop-r
+decreases-loop-r l = length l.list - l.c.at

@@ -7,10 +7,10 @@ use borrow.Author.Rules.{rules}
 use Rattle.match_group.proofs.group.list_rows.Goals as goal
 
 pub returns-then-out-size : goal.returns-then-out-size
-returns-then-out-size c = search list-short
+returns-then-out-size g c = search list-short
 
 pub put_listing-requires : goal.put_listing-requires
-put_listing-requires c =
+put_listing-requires g c =
     let x = c.args in
     let room = c.requires.3 in
     let first = c.first_found-objects.ensures in
@@ -25,8 +25,8 @@ put_listing-requires c =
       search first-noted,
       search first_fits,
       search all_noted,
-      list-fits x.scope.back (excluded_by x.specs.now x.negatives.now x.scope.negatives) x.specs.now x.table.now x.scope.specs x.items.now x.places.now x.scope.names _ _ first.0 rows.0 x.out.now (omega (arith, c.if-out-size.false)),
+      list-fits g.D.Direction.back (excluded_by x.specs.now x.negatives.now x.scope.negatives) x.specs.now x.table.now x.scope.specs x.items.now x.places.now x.scope.names _ _ first.0 rows.0 x.out.now (omega (arith, c.if-out-size.false)),
     )
 
 pub returns : goal.returns
-returns c = search list_written
+returns g c = search list_written

@@ -1,9 +1,6 @@
 -- The source is read back from where it was put together.
-use Rattle.match_row.proofs.Sources.{front_long, front-asked}
+use Rattle.match_row.proofs.Sources.{front-asked}
 use Rattle.match_row.proofs.gone.put_removed.Goals as goal
-
-pub slice_bounds-excluded-end-2 : goal.slice_bounds-excluded-end-2
-slice_bounds-excluded-end-2 c = search front_long
 
 pub returns : goal.returns
 returns c = search front-asked

@@ -1,13 +1,9 @@
--- Each arm is one kind of side. Assumes nothing.
-use Rattle.parse.proofs.Parts.{part-within}
-use Rattle.matcher.proofs.Needles.{needle-side, needle-head}
+-- Each arm is one kind of side; only a negative takes `HEAD` as a full name. Assumes nothing.
+use Rattle.matcher.proofs.Needles.{head-negative, head-partial}
 use Rattle.matcher.proofs.needle.needle_of.Goals as goal
 
-pub part_needle-requires : goal.part_needle-requires
-part_needle-requires c = search part-within
-
-pub returns-in-Part : goal.returns-in-Part
-returns-in-Part c = search needle-side
-
 pub returns-in-Head : goal.returns-in-Head
-returns-in-Head c = search needle-head
+returns-in-Head c = search head-negative
+
+pub returns-in-Head-2 : goal.returns-in-Head-2
+returns-in-Head-2 c = search head-partial

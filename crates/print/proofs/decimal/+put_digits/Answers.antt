@@ -1,5 +1,5 @@
 -- The last digit stands right after those of the quotient.
-use Rattle.print.proofs.Decimals.{none-put, none-ends, one-put, one-ends, digits-put, digits-end}
+use Rattle.print.proofs.Decimals.{none-put, none-ends, digits-put, digits-end}
 use Rattle.print.proofs.decimal.+put_digits.Goals as goal
 
 pub returns-then-k-eq0 : goal.returns-then-k-eq0

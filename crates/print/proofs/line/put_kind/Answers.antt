@@ -1,15 +1,12 @@
--- `print::line::put_kind` meets its contract: one word or the other, and a tab.
-use Rattle.print.proofs.Fields.{name-room, name-put, name-ends, object-room, object-put, object-ends}
+-- `print::line::put_kind` meets its contract: the word, and then a byte.
+use Rattle.print.proofs.Fields.{word-room, word-end, word_put, word-ends}
 use Rattle.print.proofs.line.put_kind.Goals as goal
 
-pub put-requires : goal.put-requires
-put-requires c = search name-room
+pub put-i-requires : goal.put-i-requires
+put-i-requires c = search word-room
 
-pub returns-then-kind-eq0 : goal.returns-then-kind-eq0
-returns-then-kind-eq0 c = (search name-put, search name-ends)
-
-pub put-requires-2 : goal.put-requires-2
-put-requires-2 c = search object-room
+pub put_byte-requires : goal.put_byte-requires
+put_byte-requires c = search word-end
 
 pub returns : goal.returns
-returns c = (search object-put, search object-ends)
+returns c = (search word_put, search word-ends)

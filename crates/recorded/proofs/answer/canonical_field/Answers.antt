@@ -4,7 +4,7 @@ use Rattle.recorded.proofs.Buffers.{canonical-fits, canonical-counts, found-cano
 use Rattle.recorded.proofs.answer.canonical_field.Goals as goal
 
 pub returns-then-w-ne0 : goal.returns-then-w-ne0
-returns-then-w-ne0 c = let o = octets-of c.args.told.now c.shared_slice_known-1.given in search canonical-long
+returns-then-w-ne0 c = let o = octets-of c.args.told.now c.type_inv.told in search canonical-long
 
 pub slice_bounds-text_field-end : goal.slice_bounds-text_field-end
 slice_bounds-text_field-end c = search canonical-fits

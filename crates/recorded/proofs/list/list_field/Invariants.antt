@@ -1,5 +1,5 @@
 -- `list_field` meets its contract: after k turns the first k texts of the list stand in the record, and the others are left in the list. Assumes nothing.
-use Prim.Native.Nat.{◌≤◌, ◌-◌}
+use Prim.Native.Nat.{◌≤◌}
 use mathlib.Core.Path.{◌≡◌}
 use mathlib.Core.List.{List}
 use lib.ListN.{length}
@@ -9,7 +9,4 @@ use Rattle.recorded.proofs.Lists.{Passing}
 use Rattle.recorded.proofs.list.list_field.Given as goal
 
 abbrev pub invariant-loop-k : goal.invariant-loop-k
-invariant-loop-k l = (l.k ≤ l.many) × (l.next ≤ length l.told) × ((texts : List Text) → l.list ≡ record_bytes texts → Passing l.told l.start l.list texts l.next l.at l.k)
-
-abbrev pub decreases-loop-k : goal.decreases-loop-k
-decreases-loop-k l = l.many - l.k
+invariant-loop-k l = (l.passed.next ≤ length l.told) × ((texts : List Text) → l.list ≡ record_bytes texts → Passing l.told l.start l.list texts l.passed.next l.passed.at l._k)

@@ -11,7 +11,7 @@ unfolding prefixed_places
 returns-in_err-r c = prefixes c.args.op c.args.spec.now _ (grind arith)
 
 pub prefix_of-requires : goal.prefix_of-requires
-prefix_of-requires c = remote-within c.args.op _ c.in_ok-r.r c.remote.result (read-within c.args.op c.args.spec.now c.parse.result c.parse.ensures.0 c.in_ok-r.r c.in_ok-r.was) c.remote.ensures
+prefix_of-requires c = remote-within _ _ c.in_ok-r.r c.remote.result (read-within c.args.op c.args.spec.now c.parse.result c.parse.ensures.0 c.in_ok-r.r c.in_ok-r.was) c.remote.ensures
 
 pub returns : goal.returns
 unfolding prefixed_places

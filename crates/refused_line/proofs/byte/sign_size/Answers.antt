@@ -1,10 +1,7 @@
 -- The first byte says which sign there is. Assumes nothing.
-use Rattle.refused_line.proofs.Sides.{sign-none, sign-caret, sign-plus, sign-other}
+use Rattle.refused_line.proofs.Sides.{sign-caret, sign-plus, sign-other}
 use borrow.Author.Rules.{rules}
 use Rattle.refused_line.proofs.byte.sign_size.Goals as goal
-
-pub returns-then-t-eq0 : goal.returns-then-t-eq0
-returns-then-t-eq0 c = (search sign-none, search rules)
 
 pub returns-then-t-eq94 : goal.returns-then-t-eq94
 returns-then-t-eq94 c = (search sign-caret, search rules)

@@ -4,4 +4,4 @@ use borrow.Author.Rules.{rules}
 use Rattle.search.proofs.found.name_found.Goals as goal
 
 pub returns : goal.returns
-returns c = (search rules, search rules, search size-noted)
+returns g c = (search rules, search rules, search size-noted)

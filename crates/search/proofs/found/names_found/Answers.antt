@@ -3,34 +3,34 @@ use borrow.Author.Rules.{rules}
 use Rattle.search.proofs.found.names_found.Goals as goal
 
 pub next_passing-j-requires : goal.next_passing-j-requires
-next_passing-j-requires c = (search rules, search rules, search places-room, search places-within)
+next_passing-j-requires g c = (search rules, search rules, search places-room, search places-within)
 
 pub loop-j-init : goal.loop-j-init
-loop-j-init c = search names-begin
+loop-j-init g c = search names-begin
 
 pub bounds-places-j : goal.bounds-places-j
-bounds-places-j c = search place-first
+bounds-places-j g c = search place-first
 
 pub bounds-places-j-in-loop-j : goal.bounds-places-j-in-loop-j
-bounds-places-j-in-loop-j c = search place-second
+bounds-places-j-in-loop-j g c = search place-second
 
 pub part-requires : goal.part-requires
-part-requires c = (search place_inside, search rules)
+part-requires g c = (search place_inside, search rules)
 
 pub name_found-x-requires : goal.name_found-x-requires
-name_found-x-requires c = (search rules, search rules, search rules, search place-few, search place_short, search rules)
+name_found-x-requires g c = (search rules, search rules, search rules, search place-few, search place_short, search rules)
 
 pub overflow_add-size : goal.overflow_add-size
-overflow_add-size c = search names-fit
+overflow_add-size g c = search names-fit
 
 pub next_passing-j-requires-in-loop-j : goal.next_passing-j-requires-in-loop-j
-next_passing-j-requires-in-loop-j c = (search rules, search rules, search places-room, search places-within)
+next_passing-j-requires-in-loop-j g c = (search rules, search rules, search places-room, search places-within)
 
 pub loop-j-smaller : goal.loop-j-smaller
-loop-j-smaller c = search next-less
+loop-j-smaller g c = search next-less
 
 pub loop-j-preserved : goal.loop-j-preserved
-loop-j-preserved c = search names-next
+loop-j-preserved g c = search names-next
 
 pub returns : goal.returns
-returns c = (search names-measured, search names-small, search names-noted)
+returns g c = (search names-measured, search names-small, search names-noted)

@@ -6,7 +6,7 @@ use Rattle.search.proofs.Finding.{NamesFound}
 use Rattle.search.proofs.found.names_found.Given as goal
 
 abbrev pub invariant-loop-j : goal.invariant-loop-j
-invariant-loop-j l = NamesFound l.scope.back (excluded_by l.specs l.negatives l.scope.negatives) (matcher_spec l.specs l.m) l.items l.places l.n l.i l.initial.hits l.initial.known l.hits l.size l.known l.j
+invariant-loop-j g l = NamesFound g.D.Direction.back (excluded_by l.specs l.negatives l.scope.negatives) (matcher_spec l.specs l.m) l.items l.places l.n l.i l.initial.hits l.initial.known l.hits l.size l.known l.j
 
 abbrev pub decreases-loop-j : goal.decreases-loop-j
-decreases-loop-j l = l.n - l.j
+decreases-loop-j g l = l.n - l.j

@@ -1,5 +1,4 @@
 -- What is measured and noted, and the specs that are left, make the whole.
-use Prim.Native.Nat.{◌-◌}
 use lib.ListN.{length}
 use Rattle.row.specs.Rows.{row_most}
 use Rattle.match_row.specs.Pairs.{object_bytes}
@@ -9,6 +8,3 @@ use Rattle.search.proofs.found.objects_found.Given as goal
 
 abbrev pub invariant-loop-i : goal.invariant-loop-i
 invariant-loop-i l = RowFound (λ i. object_bytes i (spec_at l.specs l.table i)) (λ i. hit_if (length (object_bytes i (spec_at l.specs l.table i))) (hit_of i 0)) l.group row_most l.initial.hits 0 l.hits l.size l.noted l.i
-
-abbrev pub decreases-loop-i : goal.decreases-loop-i
-decreases-loop-i l = l.group - l.i

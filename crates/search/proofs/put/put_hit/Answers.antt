@@ -4,16 +4,16 @@ use borrow.Author.Rules.{rules}
 use Rattle.search.proofs.put.put_hit.Goals as goal
 
 pub start_of-start-requires : goal.start_of-start-requires
-start_of-start-requires c = search hit-places
+start_of-start-requires g c = search hit-places
 
 pub size_of-size-requires : goal.size_of-size-requires
-size_of-size-requires c = search hit-places
+size_of-size-requires g c = search hit-places
 
 pub part-requires : goal.part-requires
-part-requires c = (search hit-inside, search rules)
+part-requires g c = (search hit-inside, search rules)
 
 pub put_field-requires : goal.put_field-requires
-put_field-requires c = (search rules, search rules, search hit-field-few, search hit-short, search hit-empty, search hit-some, search hit-room)
+put_field-requires g c = (search rules, search rules, search hit-field-few, search hit-short, search hit-empty, search hit-some, search hit-room)
 
 pub returns : goal.returns
-returns c = search hit-put
+returns g c = search hit-put

@@ -1,13 +1,10 @@
--- `text::last::past_last` meets its contract: the text up to each place passed, from the end, has the same last b, and the first sixteen bytes
--- have what is left.
-use mathlib.Core.Path.{◌≡◌}
-use Prim.Native.Nat.{◌≤◌}
-use lib.ListN.{length, take}
+-- `text::last::past_last` meets its contract: the bytes that are left have the same last b, and std finds its place among them.
+use Rattle.std.proofs.Common.{◌≡◌, ◌≤◌, length}
 use Rattle.text.specs.Last.{past_last}
 use Rattle.text.proofs.last.past_last.Given as goal
 
-abbrev pub invariant-loop-i : goal.invariant-loop-i
-invariant-loop-i l = (l.i ≤ length l.s) × (past_last l.b (take l.i l.s) ≡ past_last l.b l.s)
+abbrev pub invariant-loop-front : goal.invariant-loop-front
+invariant-loop-front l = (past_last l.b l.rest ≡ past_last l.b l.s) × (length l.rest ≤ length l.s)
 
-abbrev pub decreases-loop-i : goal.decreases-loop-i
-decreases-loop-i l = l.i
+abbrev pub decreases-loop-front : goal.decreases-loop-front
+decreases-loop-front l = length l.rest

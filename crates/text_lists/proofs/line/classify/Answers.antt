@@ -1,12 +1,10 @@
 -- Each branch is one kind of line. Assumes nothing.
 use Rattle.text_lists.proofs.LineKinds.{line-blank, line-comment, line-fetch, line-push, line-name, line-shown, line_marked, line-unknown}
+use Rattle.text_lists.proofs.line.classify.Goals.{then-all_blank-via-then-all_blank, then-all_blank-via-else-all_blank+then-begins}
 use Rattle.text_lists.proofs.line.classify.Goals as goal
 
 pub returns-then-all_blank : goal.returns-then-all_blank
-returns-then-all_blank c = search line-blank
-
-pub returns-then-begins : goal.returns-then-begins
-returns-then-begins c = search line-comment
+returns-then-all_blank c = elim c.then-all_blank.branch [ then-all_blank-via-then-all_blank w ↦ search line-blank | then-all_blank-via-else-all_blank+then-begins w ↦ search line-comment ]
 
 pub returns-then-begins-2 : goal.returns-then-begins-2
 returns-then-begins-2 c = search line-fetch

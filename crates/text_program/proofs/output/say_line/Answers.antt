@@ -1,6 +1,7 @@
--- The number is printed after the word. Assumes nothing.
-use Rattle.text_program.proofs.Saying.{says-then}
+-- The digits are those that std writes. Assumes nothing.
+use Rattle.std.proofs.Common.{rules}
+use Rattle.text_program.proofs.Saying.{decimal-numeral}
 use Rattle.text_program.proofs.output.say_line.Goals as goal
 
 pub returns : goal.returns
-returns g c = says-then _ _ _ _ _ _ _ _ (λ e. (c.say-w.ensures.before e, c.say-w.ensures.all e)) c.say_number.ensures
+returns g c = rw (← decimal-numeral c.args.number (search rules)) c.write.ensures.bytes

@@ -1,2 +1,0 @@
--- `Cases`: the arms of each `match`, and the fields of each answer.
-pub mod Cases

@@ -1,9 +1,0 @@
--- `collide::literal::digit_room` meets its contract: only digits that are taken are put there.
-use Rattle.collide.proofs.Pieces.{heads-id, digits-id}
-use Rattle.collide.proofs.literal.digit_room.Goals as goal
-
-pub lower_digits-requires : goal.lower_digits-requires
-lower_digits-requires c = search heads-id
-
-pub lower_digits-requires-in-Digits : goal.lower_digits-requires-in-Digits
-lower_digits-requires-in-Digits c = search digits-id

@@ -1,0 +1,2 @@
+-- `Digits`: a digit as std tests it.
+pub mod Digits

@@ -1,6 +1,0 @@
--- `negatives::literal_matches` meets its contract: the slice is the text.
-use Rattle.negatives.proofs.Arms.{part_same}
-use Rattle.negatives.proofs.literal_matches.Goals as goal
-
-pub returns : goal.returns
-returns c = search part_same

@@ -1,0 +1,9 @@
+-- Each branch is one kind of entry. Assumes nothing.
+use Rattle.prefixes.proofs.Texts.{framed-size, head-size}
+use Rattle.prefixes.proofs.entry.Entry.size.Goals as goal
+
+pub returns-then-self-lt-FRAMES : goal.returns-then-self-lt-FRAMES
+returns-then-self-lt-FRAMES c = search framed-size
+
+pub returns-else-self-lt-FRAMES : goal.returns-else-self-lt-FRAMES
+returns-else-self-lt-FRAMES c = search head-size

@@ -1,7 +1,0 @@
--- `prefixes_field` meets its contract: what was written into the buffer is a prefix list of the group. Assumes nothing.
-use Rattle.number.proofs.Round.{octets-of}
-use Rattle.recorded_groups.proofs.Fields.{prefixes-found}
-use Rattle.recorded_groups.proofs.prefixes_field.Goals as goal
-
-pub returns : goal.returns
-returns c = let o = octets-of c.args.told.now c.shared_slice_known-1.given in search prefixes-found

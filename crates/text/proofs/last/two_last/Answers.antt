@@ -1,7 +1,0 @@
--- `text::last::two_last` meets its contract: the second half's place counts, if it has one.
-use native.Mathlib.Omega.{arith}
-use Rattle.text.proofs.Halves.{halves}
-use Rattle.text.proofs.last.two_last.Goals as goal
-
-pub returns : goal.returns
-returns c = search (halves 1 (omega arith))
