@@ -76,7 +76,8 @@ impl From<Side> for SideAnswer {
 }
 
 // The number of a mode: 0 normal, 1 force, 2 negative.
-// As it is: (d) no `From`, for neither `Mode` nor `u64` is a type of this crate.
+// As it is: (d) no `From`, for neither `Mode` nor `u64` is a type of this crate, and no `as`, which would make the order of the cases of
+// `Mode` the numbers of C.
 fn mode_number(m: Mode) -> u64
     ensures { result ≡ mode_number m }
 {

@@ -1,6 +1,5 @@
 // The matchers of a group as flat numbers, ten for each, so that they can be lent without copying.
-// As it is: (a) the table of a group is fixed memory on the stack: a matcher has 80 bytes, and its ten numbers have 20. So kinds are numbers
-// in the table, and are made and told again in this file alone.
+// A matcher has 80 bytes, and its ten numbers have 20. Kinds are made numbers, and told again, in this file alone.
 #![tactic(auto)]
 
 ghost use Rattle.std.specs.Prelude.{◌≡◌, [], ◌∷◌, ◌+◌, ◌*◌, ◌≤◌, length, get_or};
@@ -21,7 +20,6 @@ use sides::{SideNumbers, narrow, wide};
 pub const MATCHER_NUMBERS: usize = 10;
 
 // Which needle it is.
-// As it is: (d) a number of the table, see the head of this file.
 fn needle_kind(lhs: Needle) -> u16
     ensures { result ≡ needle_kind lhs }
 {
@@ -49,7 +47,6 @@ fn needle_star(lhs: Needle) -> u16
 }
 
 // Which lead it is.
-// As it is: (d) a number of the table, see the head of this file.
 fn lead_kind(lead: Lead) -> u16
     ensures { result ≡ lead_kind lead }
 {
@@ -63,7 +60,6 @@ fn lead_kind(lead: Lead) -> u16
 }
 
 // Which target it is.
-// As it is: (d) a number of the table, see the head of this file.
 fn target_kind(rhs: Target) -> u16
     ensures { result ≡ target_kind rhs }
 {
@@ -75,7 +71,6 @@ fn target_kind(rhs: Target) -> u16
 }
 
 // Where the star of a target stands, or how it is led.
-// As it is: (d) a number of the table, see the head of this file.
 fn target_number(rhs: Target) -> u16
     requires { TargetStar spec_list_bytes rhs }
     ensures { result ≡ target_number rhs }
@@ -88,7 +83,6 @@ fn target_number(rhs: Target) -> u16
 }
 
 // Five numbers are put into a table from i on.
-// As it is: (a) the table is fixed memory.
 fn put_five(table: &mut [u16], i: usize, a: u16, b: u16, c: u16, d: u16, e: u16)
     requires { i + 5 ≤ length table.old }
     ensures { table.new ≡ splice table.old i (a ∷ b ∷ c ∷ d ∷ e ∷ []) }
@@ -101,7 +95,6 @@ fn put_five(table: &mut [u16], i: usize, a: u16, b: u16, c: u16, d: u16, e: u16)
 }
 
 // The five numbers of one side are put into a table from i on: the side, its kind and one number more.
-// As it is: (a) the table is fixed memory.
 fn put_half(table: &mut [u16], i: usize, side: Side, kind: u16, number: u16)
     requires { (i + 5 ≤ length table.old) × Within spec_list_bytes side }
     ensures { table.new ≡ splice table.old i (half_numbers side kind number) }
@@ -111,7 +104,6 @@ fn put_half(table: &mut [u16], i: usize, side: Side, kind: u16, number: u16)
 }
 
 // A matcher is put into a table as number k.
-// As it is: (a) the table is fixed memory.
 pub fn put_matcher(table: &mut [u16], k: usize, m: Matcher)
     requires { MatcherWithin spec_list_bytes m × (matcher_numbers * k + matcher_numbers ≤ length table.old) }
     ensures { PutMatcher table.old k m table.new }
@@ -128,7 +120,6 @@ pub fn put_matcher(table: &mut [u16], k: usize, m: Matcher)
 }
 
 // What two numbers tell that a source looks for.
-// As it is: (d) a number of the table, see the head of this file.
 fn needle_from(kind: u16, star: usize) -> Needle
     ensures { result ≡ needle_from kind star }
 {
@@ -142,7 +133,6 @@ fn needle_from(kind: u16, star: usize) -> Needle
 }
 
 // The lead that a number tells.
-// As it is: (d) a number of the table, see the head of this file.
 fn lead_from(n: usize) -> Lead
     ensures { result ≡ lead_from n }
 {
@@ -156,7 +146,6 @@ fn lead_from(n: usize) -> Lead
 }
 
 // What two numbers tell of a destination.
-// As it is: (d) a number of the table, see the head of this file.
 fn target_from(kind: u16, n: usize) -> Target
     ensures { result ≡ target_from kind n }
 {
@@ -168,7 +157,6 @@ fn target_from(kind: u16, n: usize) -> Target
 }
 
 // The numbers of a side that stand in a table from i on.
-// As it is: (a) the table is fixed memory.
 fn numbers_at(table: &[u16], i: usize) -> SideNumbers
     requires { i + 3 ≤ length table.now }
     ensures { side_of result ≡ side_from (get_or table.now i 0) (get_or table.now (i + 1) 0) (get_or table.now (i + 2) 0) }
@@ -181,7 +169,6 @@ fn numbers_at(table: &[u16], i: usize) -> SideNumbers
 }
 
 // Matcher number k of a table.
-// As it is: (a) the table is fixed memory.
 pub fn matcher_at(table: &[u16], k: usize) -> Matcher
     requires { matcher_numbers * k + matcher_numbers ≤ length table.now }
     ensures { result ≡ matcher_at table.now k }

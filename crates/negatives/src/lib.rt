@@ -87,7 +87,6 @@ fn negative_of(specs: &[u8], r: RefSpec) -> Negative
 }
 
 // Four numbers are put into a table as those of number k; the number after it.
-// As it is: (a) a negative has 32 bytes, and its four numbers in a table have eight; so kinds are numbers there.
 fn put_numbers(out: &mut [u16], k: usize, kind: usize, at: usize, len: usize, star: usize) -> usize
     requires { (negative_numbers * k + negative_numbers ≤ length out.old) × (kind ≤ 3) × (at ≤ spec_list_bytes) × (len ≤ spec_list_bytes) × (star ≤ spec_list_bytes) }
     ensures { (result ≡ k + 1) × (out.new ≡ splice out.old (negative_numbers * k) (kind ∷ at ∷ len ∷ star ∷ [])) × PutNegative out.old k (negative_from kind at len star) out.new }
@@ -128,7 +127,6 @@ pub fn put_if_negative(specs: &[u8], r: RefSpec, k: usize, out: &mut [u16]) -> u
 }
 
 // The negative that four numbers tell.
-// As it is: (a) a negative has 32 bytes, and its four numbers in a table have eight; so kinds are numbers there.
 fn negative_from(kind: usize, at: usize, len: usize, star: usize) -> Negative
     ensures { result ≡ negative_from kind at len star }
 {

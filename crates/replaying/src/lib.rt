@@ -25,7 +25,7 @@ impl Tally {
     // One answer more that is ours.
     fn agreeing(self) -> Tally
         requires { self.read < 18446744073709551615 }
-        ensures { result.read ≡ self.read + 1 }
+        ensures { (result.read ≡ self.read + 1) × (result.differ ≡ self.differ) }
     {
         Tally {
             read: self.read + 1,
@@ -36,7 +36,7 @@ impl Tally {
     // One answer more that differs.
     fn differing(self) -> Tally
         requires { self.read < 18446744073709551615 }
-        ensures { result.read ≡ self.read + 1 }
+        ensures { (result.read ≡ self.read + 1) × (result.differ ≡ self.differ + 1) }
     {
         Tally {
             read: self.read + 1,
