@@ -45,7 +45,7 @@ none-some x k = let z : ◌≡◌ {A = ℕ} 0 1 = cc in omega arith
 
 -- ---- a name that is not too short
 module _ (n size : ℕ) (e : prelude.Option Ends) where
-  long-enough : size ≤ n + 1 → (r : prelude.Option Ends) → r ≡ e → r ≡ if_long_enough n size e
+  pub long-enough : size ≤ n + 1 → (r : prelude.Option Ends) → r ≡ e → r ≡ if_long_enough n size e
   unfolding if_long_enough
   long-enough h r q = rw (le-ltb (n + 1) size h) q
 
@@ -152,7 +152,7 @@ module _ (specs : Text) (m : Matcher) (w : MatcherWithin (length specs) m) where
       go needle.Object q = digits-any name m.src m.dst m.rhs ∙ rw q at told
       go needle.PartialName q = absurd (none-some e (rw q at told ∙ k))
 
-  known-forward : (n : ℕ) (r : prelude.Option Ends) → r ≡ known_places m.src m.lhs m.dst m.rhs n → KnownForward specs m n r
+  pub known-forward : (n : ℕ) (r : prelude.Option Ends) → r ≡ known_places m.src m.lhs m.dst m.rhs n → KnownForward specs m n r
   known-forward n r er =
       rw er
       (record {
@@ -233,7 +233,7 @@ module _ (specs : Text) (m : Matcher) (w : MatcherWithin (length specs) m) where
       s
       h
 
-  known-reverse : (n : ℕ) (r : prelude.Option Ends) → r ≡ known_back m.src m.lhs m.dst m.rhs n → KnownReverse specs m n r
+  pub known-reverse : (n : ℕ) (r : prelude.Option Ends) → r ≡ known_back m.src m.lhs m.dst m.rhs n → KnownReverse specs m n r
   known-reverse n r er =
       rw er
       (record {

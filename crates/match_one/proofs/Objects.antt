@@ -90,7 +90,7 @@ module _ (specs : Text) (m : Matcher) (r : prelude.Option Ends) (er : r ≡ obje
       (led-maps whole (side_text specs m.dst) m.rhs h.completes ∙ ap (maps_to whole) h.rhs-is)
 
   -- and stand within the list
-  object-within : MatcherWithin (length specs) m → EndsWithin (length specs) 0 r
+  pub object-within : MatcherWithin (length specs) m → EndsWithin (length specs) 0 r
   object-within w = rw er (places-within specs m.src m.dst w.src-within w.dst-within m.lhs m.rhs)
 
   -- so they are told in all ways

@@ -80,7 +80,7 @@ module _ (back : Bool) (specs name : Text) (m : Matcher) (i field : ℕ) (r : pr
     field-within = subst (EndsWithin (length specs) (length name)) is t.within
 
     module _ (y : Numbers) (ey : y ≡ field_numbers i field) where
-      field_is : field_bytes back i field name (matcher_spec specs m) ≡ row_bytes (row_of_ends specs name y x)
+      pub field_is : field_bytes back i field name (matcher_spec specs m) ≡ row_bytes (row_of_ends specs name y x)
       unfolding field_bytes row_of_ends
       field_is = rw (← meant, is, ey) (append-nil _)
 

@@ -52,7 +52,7 @@ slash-fits y s e = rw (ne_eqb 47 y (λ q. other 47 q refl), ne_eqb 46 y (λ q. o
     other k q f = true≢false (sym e ∙ rw (← q) f)
 
 -- so a byte that fits before the next stands before it, where there is one
-fits-stands : (x : ℕ) (s : Text) → 0 < length s → fits x (get_or s 0 0) ≡ true → stands x s ≡ true
+pub fits-stands : (x : ℕ) (s : Text) → 0 < length s → fits x (get_or s 0 0) ≡ true → stands x s ≡ true
 fits-stands x [] h e = absurd (omega arith)
 fits-stands x (y ∷ s) h e = go (plain-cases x (both-left (plain x) _ e))
   where

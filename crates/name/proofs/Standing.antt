@@ -37,7 +37,7 @@ anywhere-stands x s e = go (eqb 46 x) (eqb 47 x) (eqb 64 x) e
     go false false false e = e
 
 -- small letters and digits do
-letter-stands : (x : ℕ) (s : Text) → is_ascii_lowercase x ≡ true → stands x s ≡ true
+pub letter-stands : (x : ℕ) (s : Text) → is_ascii_lowercase x ≡ true → stands x s ≡ true
 unfolding name_byte rule_four_byte rule_five_byte
 letter-stands x s e =
     let l : 97 ≤ x = grind (arith, nat_tests) in

@@ -83,10 +83,10 @@ module _ (n : ℕ) (l : Text) (a : Line) (tells : TellsLine l a) where
     begins-at : at ≤ length l → length l - length (drop at l) ≡ at
     begins-at h = omega (arith, length-drop at l)
 
-    byte-fetch : a ≡ Fetch at → past at (spec_byte n (drop at l)) ≡ line_byte n l
+    pub byte-fetch : a ≡ Fetch at → past at (spec_byte n (drop at l)) ≡ line_byte n l
     byte-fetch e = by-held (fetch (drop at l)) (rw e at tells.means) _ (rw (begins-at (rw e at tells.within)))
 
-    byte-push : a ≡ Push at → past at (spec_byte n (drop at l)) ≡ line_byte n l
+    pub byte-push : a ≡ Push at → past at (spec_byte n (drop at l)) ≡ line_byte n l
     byte-push e = by-held (push (drop at l)) (rw e at tells.means) _ (rw (begins-at (rw e at tells.within)))
 
     pub byte-spec : (a ≡ Fetch at) ⊎ (a ≡ Push at) → past at (spec_byte n (drop at l)) ≡ line_byte n l

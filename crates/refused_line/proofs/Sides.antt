@@ -76,7 +76,7 @@ module _ (t : Text) (start : ℕ) (es : start ≡ sign_length (mode_of t)) (n : 
 -- the first byte of a side that the name rules refuse
 module _ (t : Text) (start end rest : ℕ) (s : SidesAt t start end rest) (o : Option ℕ) where
   module _ (e : o ≡ position refused_byte (take (end - start) (drop start t))) where
-    source-found : past start (counted o) ≡ source_byte t
+    pub source-found : past start (counted o) ≡ source_byte t
     unfolding source_byte
     source-found = rw (e, counted-position refused_byte (take (end - start) (drop start t)), s.source_is, s.start_is)
 
@@ -89,7 +89,7 @@ module _ (t : Text) (start end rest : ℕ) (s : SidesAt t start end rest) (o : O
         (omega arith ∙ rw n at source-found, omega (arith, length-take (end - start) (drop start t), s.starts, s.ends))
 
   module _ (e : o ≡ position refused_byte (take (length t - rest) (drop rest t))) where
-    destination-found : past rest (counted o) ≡ destination_byte t
+    pub destination-found : past rest (counted o) ≡ destination_byte t
     unfolding destination_byte
     destination-found =
         let p : length t - length (right (sides_of (unsigned t))) ≡ rest = omega (arith, ap length s.destination-is, length-drop rest t, s.within) in

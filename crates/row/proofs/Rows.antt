@@ -24,11 +24,11 @@ use Rattle.row.specs.declared.Numbers.{Numbers}
 use Rattle.row.specs.Rows.{kind_number, row_of_ends, row_numbers, present_bytes, text_most, row_most}
 
 -- a destination that is absent
-destination-none : (specs name : Text) (m : RowText) → m ≡ Absent → destination_bytes (row_text_meant specs name m) ≡ number_bytes 0
+pub destination-none : (specs name : Text) (m : RowText) → m ≡ Absent → destination_bytes (row_text_meant specs name m) ≡ number_bytes 0
 destination-none specs name m e = rw e
 
 -- one that is there
-destination-some : (specs name : Text) (m : RowText) → (m ≡ Absent → ⊥) → destination_bytes (row_text_meant specs name m) ≡ present_bytes (or_empty (row_text_meant specs name m))
+pub destination-some : (specs name : Text) (m : RowText) → (m ≡ Absent → ⊥) → destination_bytes (row_text_meant specs name m) ≡ present_bytes (or_empty (row_text_meant specs name m))
 destination-some specs name Absent d = absurd (d refl)
 destination-some specs name Name d = refl
 destination-some specs name (Led l s) d = refl
@@ -72,17 +72,17 @@ module _ (t : Text) (n : ℕ) (size : n ≡ length t) (d : Text) (at : ℕ) (fit
   present-both : at + length (number_bytes (n + 1) ++ t) ≤ length d
   present-both = rw (← present-pieces t n size) fits
 
-  present-first : at + length (number_bytes (n + 1)) ≤ length d
+  pub present-first : at + length (number_bytes (n + 1)) ≤ length d
   present-first = pair-first d at (number_bytes (n + 1)) t present-both
 
   module _ (o : Text) (i : ℕ) (eo : o ≡ splice d at (number_bytes (n + 1))) (ei : i ≡ at + length (number_bytes (n + 1))) where
-    present-second : i + length t ≤ length o
+    pub present-second : i + length t ≤ length o
     present-second = pair-second d at (number_bytes (n + 1)) t present-both o i eo ei
 
-    present-put : (p : Text) → p ≡ splice o i t → p ≡ splice d at (present_bytes t)
+    pub present-put : (p : Text) → p ≡ splice o i t → p ≡ splice d at (present_bytes t)
     present-put p e = rw (present-pieces t n size) (pair_put d at (number_bytes (n + 1)) t present-both o i eo ei p e)
 
-    present-end : (j : ℕ) → j ≡ i + length t → j ≡ at + length (present_bytes t)
+    pub present-end : (j : ℕ) → j ≡ i + length t → j ≡ at + length (present_bytes t)
     present-end j e = rw (present-pieces t n size) (pair_end d at (number_bytes (n + 1)) t present-both o i eo ei j e)
 
 -- a destination, measured and written

@@ -83,7 +83,7 @@ module _ (t d : Text) (p : Pieces) (fits : length (pieces_text t p) ≤ length d
       dst-room : j + length (dst_text t p.dst) ≤ length d₂
       dst-room = pair-second d₁ i (side_text t p.src) (dst_text t p.dst) rest-room d₂ j p₂ e₂
 
-      all-written : (o : Text) → o ≡ splice d₂ j (dst_text t p.dst) → o ≡ splice d 0 (pieces_text t p)
+      pub all-written : (o : Text) → o ≡ splice d₂ j (dst_text t p.dst) → o ≡ splice d 0 (pieces_text t p)
       unfolding pieces_text
       all-written o e = pair_put d 0 (sign_text p.sign) (side_text t p.src ++ dst_text t p.dst) room d₁ i p₁ at-i o (pair_put d₁ i (side_text t p.src) (dst_text t p.dst) rest-room d₂ j p₂ e₂ o e)
 
