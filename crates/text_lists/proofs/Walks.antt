@@ -1,5 +1,5 @@
 -- The walk over the lines: what is gathered and the lines that are left make the whole. Assumes nothing.
-use Prim.Native.Nat.{ℕ, zero, suc, ◌≤◌}
+use Prim.Native.Nat.{ℕ, zero, suc, ◌-◌, ◌<◌, ◌≤◌}
 use mathlib.Core.Path.{◌≡◌, refl, sym, ap, ◌∙◌}
 use mathlib.Core.List.{List, [], ◌∷◌, ◌++◌}
 use native.Mathlib.Omega.{arith}
@@ -24,6 +24,7 @@ use Rattle.text_lists.specs.Gather.{reason_of, specs_in, names_in, Gathering, un
 use Rattle.text_lists.specs.Growing.{reason_in, lists_after, unless_refused, Grows, LineAdds, Gathers}
 use Rattle.text_lists.proofs.Growth.{refused_none}
 use Rattle.text_lists.proofs.Lines.{LinesShort, left-short}
+use Rattle.text_lists.proofs.Starts.{Starts, start-there, start-room, Numbered, left-numbered}
 
 -- a buffer that was d holds the list of some texts at its start, within its limit
 pub record Holding (limit : ℕ) (d o : Text) (count size : ℕ) : Type 0 where
@@ -74,6 +75,7 @@ gather-numbered k specs names (l ∷ lines) =
 -- the lists of the lines that were taken, and the lines that are left
 pub record Walked (input d₁ d₂ : Text) (lines : List (ℕ × Text)) (so : Lists) (o₁ o₂ : Text) : Type 0 where
   pub short : LinesShort (length input) lines
+  pub numbered : Numbered (lines_of input) lines
   pub specs : Holding spec_list_bytes d₁ o₁ so.specs so.specs_size
   pub names : Holding item_list_bytes d₂ o₂ so.names so.names_size
   pub left : gather_left specs.texts names.texts lines ≡ gathered input
@@ -82,6 +84,7 @@ pub walked-starts : (input d₁ d₂ : Text) (lines : List (ℕ × Text)) → li
 unfolding gathered holding-none
 walked-starts input d₁ d₂ lines e = record {
   short = rw e (left-short (length input) 0 input (le_refl (length input)));
+  numbered = rw e (left-numbered (lines_of input) 0 (lines_of input) refl);
   specs = holding-none spec_list_bytes d₁;
   names = holding-none item_list_bytes d₂;
   left = rw e (gather-numbered 1 [] [] (lines_of input));
@@ -116,8 +119,15 @@ turn-of specs names l lines a b c d n ea eb ec ed e = rw (e, ea, eb, ec, ed)
 module _ (input d₁ d₂ : Text) (long₁ : spec_list_bytes ≤ length d₁) (long₂ : item_list_bytes ≤ length d₂) (lines : List (ℕ × Text)) (so : Lists) (o₁ o₂ : Text) (w : Walked input d₁ d₂ lines so o₁ o₂) where
   -- the next line
   module _ (l : ℕ × Text) (rest : List (ℕ × Text)) (e : lines ≡ l ∷ rest) where
-    pub walked-short : length l.1 ≤ length input
-    walked-short = let h : LinesShort (length input) (l ∷ rest) = rw e at w.short in h.0
+    numbered-next : Numbered (lines_of input) (l ∷ rest)
+    numbered-next = rw e at w.numbered
+
+    -- so many lines are there
+    number-within : l.0 - 1 < length (lines_of input)
+    number-within =
+        let p : 0 < l.0 = numbered-next.0.0 in
+        let q : l.0 ≤ length (lines_of input) = numbered-next.0.1 in
+        omega arith
 
     module _ (r : Result Lists Reason) (p₁ p₂ : Text) (adds : LineAdds (held_in l.1) so r o₁ o₂ p₁ p₂) where
       abbrev held : Held
@@ -131,8 +141,8 @@ module _ (input d₁ d₂ : Text) (long₁ : spec_list_bytes ≤ length d₁) (l
           ∙ w.left
 
       -- it is refused
-      pub walked_stop : (q : Reason) → r ≡ Err q → (t : RefusedLine) → t.number ≡ l.0 → t.text.now ≡ l.1 → t.reason ≡ q → Gathers input (gathered input) d₁ d₂ p₁ p₂ (record { specs = so.specs_size; items = so.names_size; refused = Some t })
-      walked_stop q f t et el eq =
+      pub walked_stop : (q : Reason) → r ≡ Err q → (t : RefusedLine) → t.number ≡ l.0 → t.text.now ≡ l.1 → t.reason ≡ q → Starts input (l.0 - 1) t.start → Gathers input (gathered input) d₁ d₂ p₁ p₂ (record { specs = so.specs_size; items = so.names_size; refused = Some t })
+      walked_stop q f t et el eq at =
           let z = some-reason q in
           let n : reason_in r ≡ reason_number q = rw f refl in
           let z₂ : (reason_in r ≡ 0 → ⊥) = λ (k : reason_in r ≡ 0). z (sym n ∙ k) in
@@ -140,7 +150,13 @@ module _ (input d₁ d₂ : Text) (long₁ : spec_list_bytes ≤ length d₁) (l
           let s = refused_none (reason_in r) (specs_in held) z₂ in
           let m = refused_none (reason_in r) (names_in held) z₂ in
           rw (← g) (record {
-            tells = record { line-is = et; reason-is = ap reason_number eq ∙ sym n; text-is = el; text-within = rw el walked-short };
+            tells = record {
+              line-is = et;
+              reason-is = ap reason_number eq ∙ sym n;
+              text-is = el;
+              text-there = rw el (start-there input (l.0 - 1) t.start at number-within l.1 numbered-next.0.2);
+              text-within = rw el (start-room input (l.0 - 1) t.start at number-within l.1 numbered-next.0.2);
+            };
             specs-size = w.specs.size_is;
             items-size = w.names.size_is;
             specs-put = stays_put spec_list_bytes d₁ o₁ so.specs so.specs_size w.specs (unless_refused (reason_in r) (specs_in held)) s (lists_after so r).specs (lists_after so r).specs_size p₁ adds.specs-grow;
@@ -173,6 +189,7 @@ module _ (input d₁ d₂ : Text) (long₁ : spec_list_bytes ≤ length d₁) (l
         unfolding specs-more names_more holding-more
         walked_more = record {
           short = let h : LinesShort (length input) (l ∷ rest) = rw e at w.short in h.1;
+          numbered = numbered-next.1;
           specs = specs-more;
           names = names_more;
           left = goes_on (reason_in r) l.0 l.1 w.specs.texts w.names.texts (gather_left (w.specs.texts ++ specs_in held) (w.names.texts ++ names_in held) rest) (gathered input) no-reason turn;

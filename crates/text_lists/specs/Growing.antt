@@ -1,5 +1,5 @@
 -- Two lists that grow in their buffers, line by line.
-use Rattle.std.specs.Prelude.{ℕ, zero, suc, ◌+◌, ◌≤◌, ◌≡◌, List, [], ◌∷◌, length, Option, Some, None, Result, Ok, Err}
+use Rattle.std.specs.Prelude.{ℕ, zero, suc, ◌+◌, ◌≤◌, ◌≡◌, List, [], ◌∷◌, length, take, drop, Option, Some, None, Result, Ok, Err}
 use Rattle.meaning.specs.Bytes.{Text}
 use Rattle.meaning.specs.Limits.{spec_list_bytes, item_list_bytes}
 use Rattle.meaning.specs.Number.{record_bytes}
@@ -68,12 +68,13 @@ pub record LineAdds (h : Held) (so : Lists) (r : Result Lists Reason) (specs ite
   pub specs-grow : Grows spec_list_bytes (unless_refused (reason_in r) (specs_in h)) so.specs so.specs_size specs (lists_after so r).specs (lists_after so r).specs_size specs_after
   pub names-grow : Grows item_list_bytes (unless_refused (reason_in r) (names_in h)) so.names so.names_size items (lists_after so r).names (lists_after so r).names_size items_after
 
--- the refused line is that which was gathered, and no longer than the text
+-- the refused line is that which was gathered, and it stands in the input where it is said to begin
 pub record TellsRefused (input : Text) (g : Gathering) (l : RefusedLine) : Type 0 where
   pub line-is : l.number ≡ g.line
   pub reason-is : reason_number l.reason ≡ g.reason
   pub text-is : l.text.now ≡ g.text
-  pub text-within : length l.text.now ≤ length input
+  pub text-there : take (length l.text.now) (drop l.start input) ≡ g.text
+  pub text-within : l.start + length l.text.now ≤ length input
 
 -- no line is refused
 pub record TellsNone (g : Gathering) : Type 0 where

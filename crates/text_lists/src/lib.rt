@@ -1,12 +1,12 @@
 //! The lists that the lines of a text give: the specs of its fetch lines as a spec list, its names as an item list.
 #![tactic(auto)]
 
-ghost use Rattle.std.specs.Prelude.{◌≡◌, ◌+◌, ◌≤◌, length, take};
+ghost use Rattle.std.specs.Prelude.{◌≡◌, ◌+◌, ◌<◌, ◌≤◌, length, take, drop};
 ghost use Rattle.meaning.specs.Limits.{spec_list_bytes, program_bytes, item_list_bytes};
 ghost use Rattle.meaning.specs.Number.{text_bytes};
 ghost use Rattle.refusal.specs.Numbers.{number_or0};
 ghost use Rattle.buffer.specs.Splice.{RoomFor, Puts};
-ghost use Rattle.text_lists.specs.Line.{held_in};
+ghost use Rattle.text_lists.specs.Line.{lines_of, held_in};
 ghost use Rattle.text_lists.specs.Gather.{room_reason, spec_reason, name_reason, fault_reason, gathered};
 ghost use Rattle.text_lists.specs.Reasons.{reason_number};
 ghost use Rattle.text_lists.specs.Growing.{Room, SpecAdds, NameAdds, ShownAdds, LineAdds, Gathers};
@@ -18,13 +18,14 @@ use refusal::Refusal;
 pub mod line;
 pub mod reason;
 
-use line::{Line, Lines, classify};
+use line::{Line, Lines, classify, next_line};
 use reason::Reason;
 
-// A line that is refused: its number, counting from 1, its text, and why.
+// A line that is refused: its number, counting from 1, where it begins in the input, its text, and why.
 #[derive(Clone, Copy)]
 pub struct RefusedLine<'a> {
     pub number: usize,
+    pub start: usize,
     pub text: &'a [u8],
     pub reason: Reason,
 }
@@ -172,6 +173,19 @@ fn add_line(line: &[u8], specs: &mut [u8], items: &mut [u8], so: Lists) -> Resul
     }
 }
 
+// Where the line begins that so many others come before.
+#[tactic(auto, using(crate::proofs::Starts::start_within, crate::proofs::Starts::start_next))]
+fn start_after(passed: usize, s: &[u8]) -> usize
+    requires { passed < length (lines_of s.now) }
+    ensures { lines_of (drop result s.now) ≡ drop passed (lines_of s.now) }
+{
+    let mut at = 0;
+    for _i in 0..passed {
+        at = next_line(s, at).next;
+    }
+    at
+}
+
 // The lists that the lines of a text give, written at the start of the buffers; where a line is refused, those of the lines before it.
 pub fn gather<'a>(input: &'a [u8], specs: &mut [u8], items: &mut [u8]) -> Gathered<'a>
     requires { (length input.now ≤ program_bytes) × (spec_list_bytes ≤ length specs.old) × (item_list_bytes ≤ length items.old) }
@@ -192,6 +206,7 @@ pub fn gather<'a>(input: &'a [u8], specs: &mut [u8], items: &mut [u8]) -> Gather
                     items: so.names_size,
                     refused: Some(RefusedLine {
                         number,
+                        start: start_after(number - 1, input),
                         text,
                         reason,
                     }),
