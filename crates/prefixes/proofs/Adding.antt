@@ -1,13 +1,14 @@
 -- Entering what a side, a yield and a group of specs yield, one text after the other. Assumes nothing.
-use Prim.Native.Nat.{ℕ, ◌+◌, ◌*◌, ◌≤◌, ◌<◌}
+use Prim.Native.Nat.{ℕ, suc, ◌+◌, ◌*◌, ◌≤◌, ◌<◌}
 use native.Mathlib.Numerals.{add-one}
 use native.Mathlib.Omega.{arith}
 use mathlib.Core.Path.{◌≡◌, refl, sym, ap, ◌∙◌}
 use mathlib.Core.List.{List, [], ◌∷◌, ◌++◌, append-nil}
 use borrow.Author.Tests.{lt-ltb}
 use lib.ListN.{length, take, drop, length-append}
-use lib.Seq.{take-suc, drop-cons}
+use lib.Seq.{take-suc}
 use Rattle.meaning.specs.Bytes.{Text, each}
+use Rattle.meaning.specs.Limits.{spec_count}
 use Rattle.meaning.specs.Prefix.{candidates, expand_prefixes}
 use Rattle.parse.specs.declared.types.Side.{Side}
 use Rattle.parse.specs.declared.types.Side.TheVariants.{Absent, Part, Head}
@@ -23,12 +24,12 @@ use Rattle.refspec.proofs.Fronts.{remote-within}
 use Rattle.expand.proofs.Lists.{expand-is, yield-within}
 use Rattle.spec_list.specs.Group.{group_meant, AllWithin}
 use Rattle.spec_list.specs.declared.record.SpecRecord.{SpecRecord}
-use Rattle.spec_list.specs.Table.{blank, spec_from_record, record_at}
-use Rattle.spec_list.proofs.Groups.{all-within}
+use Rattle.spec_list.specs.Table.{spec_from_record, record_at}
+use Rattle.spec_list.proofs.Groups.{table-next, table-within, table-end}
 use Rattle.prefixes.specs.declared.entry.Entry.{Entry}
 use Rattle.prefixes.specs.Distinct.{add_all}
 use Rattle.prefixes.specs.Table.{entry_text, entry, side_entry, table_texts, EntryWithin, Entries, Entered}
-use Rattle.prefixes.specs.Group.{group_texts, table_room}
+use Rattle.prefixes.specs.Group.{group_texts, table_room, Collected}
 use Rattle.prefixes.proofs.Distinct.{all_append}
 
 -- ---- the entry of a side
@@ -126,48 +127,54 @@ spec-few op specs r w =
 
 -- ---- a group
 
--- the specs of a group from a place on: that one, and those after it
-rest-next : (specs : Text) (group : List SpecRecord) (i : ℕ) → i < length group → group_meant specs (drop i group) ≡ spec_meant specs (spec_from_record (record_at group i)) ∷ group_meant specs (drop (i + 1) group)
-rest-next specs group i h = rw (add-one i) (ap (group_meant specs) (drop-cons group i blank h))
+-- a record of the first n stands within the list
+module _ (len : ℕ) (group : List SpecRecord) (n j : ℕ) (size : length group ≡ spec_count) (few-specs : n ≤ spec_count) (below : j < n) (q : SpecRecord) (is : q ≡ record_at (take n group) j) (r : RefSpec) (tells : r ≡ spec_from_record q) where
+  pub collecting-within : AllWithin len (take n group) → SidesWithin len r
+  collecting-within in_List = rw tells (table-within group n j q is size few-specs below len in_List)
 
 -- what the first i specs yield is entered, and the others make the whole
-pub record Collecting (op : ℕ) (specs : Text) (group : List SpecRecord) (table₀ : List Entry) (scratch₀ : Text) (table : List Entry) (scratch : Text) (c i : ℕ) : Type 0 where
+pub record Collecting (op : ℕ) (specs : Text) (group : List SpecRecord) (n : ℕ) (table₀ : List Entry) (scratch₀ : Text) (table : List Entry) (scratch : Text) (c i : ℕ) : Type 0 where
   pub few : c ≤ 6 * i
-  pub turn : i ≤ length group
+  pub turn : i ≤ n
   pub room : c ≤ length table
   pub entries : Entries (length specs) (take c table)
-  pub whole : add_all (table_texts specs (take c table)) (each (group_meant specs (drop i group)) (expand_prefixes op)) ≡ group_texts op (group_meant specs group)
+  pub whole : add_all (table_texts specs (take c table)) (each (group_meant specs (drop i (take n group))) (expand_prefixes op)) ≡ group_texts op (group_meant specs (take n group))
   pub kept : length table ≡ length table₀
   pub lent : length scratch ≡ length scratch₀
 
 -- nothing at the start
-pub collecting-starts : (op : ℕ) (specs : Text) (group : List SpecRecord) (table : List Entry) (scratch : Text) → Collecting op specs group table scratch table scratch 0 0
+pub collecting-starts : (op : ℕ) (specs : Text) (group : List SpecRecord) (n : ℕ) (table : List Entry) (scratch : Text) → Collecting op specs group n table scratch table scratch 0 0
 unfolding group_texts
-collecting-starts op specs group table scratch =
+collecting-starts op specs group n table scratch =
     record { few = omega arith; turn = omega arith; room = omega arith; entries = record { within = λ i l. absurd (omega arith) }; whole = refl; kept = refl; lent = refl }
 
-module _ (op : ℕ) (specs : Text) (group : List SpecRecord) (table₀ : List Entry) (scratch₀ : Text) (table : List Entry) (scratch : Text) (c i : ℕ) (m : Collecting op specs group table₀ scratch₀ table scratch c i) where
-  module _ (below : i < length group) where
+module _ (op : ℕ) (specs : Text) (group : List SpecRecord) (n : ℕ) (table₀ : List Entry) (scratch₀ : Text) (table : List Entry) (scratch : Text) (c i : ℕ) (m : Collecting op specs group n table₀ scratch₀ table scratch c i) where
+  module _ (below : i < n) (few-specs : n ≤ spec_count) where
     -- the table has room for six more
-    pub collecting-room : table_room (length group) ≤ length table₀ → c + 6 ≤ length table
+    pub collecting-room : table_room n ≤ length table₀ → c + 6 ≤ length table
     collecting-room h = omega (arith, m.few, m.kept)
 
-    module _ (q : SpecRecord) (is : q ≡ record_at group i) (r : RefSpec) (tells : r ≡ spec_from_record q) (in_List : AllWithin (length specs) group) where
-      -- the next record stands within the list
-      pub collecting-within : SidesWithin (length specs) r
-      collecting-within = rw (tells, is) (all-within (length specs) group i below in_List)
-
-      -- what it yields is entered
-      pub collecting-more : (next : List Entry) (lent : Text) (k : ℕ) → Entered specs (expand_prefixes op (spec_meant specs r)) table c next k → length next ≡ length table → length lent ≡ length scratch → Collecting op specs group table₀ scratch₀ next lent k (i + 1)
+    module _ (size : length group ≡ spec_count) (q : SpecRecord) (is : q ≡ record_at (take n group) i) (r : RefSpec) (tells : r ≡ spec_from_record q) (in_List : AllWithin (length specs) (take n group)) where
+      -- what the next record yields is entered
+      pub collecting-more : (next : List Entry) (lent : Text) (k : ℕ) → Entered specs (expand_prefixes op (spec_meant specs r)) table c next k → length next ≡ length table → length lent ≡ length scratch → Collecting op specs group n table₀ scratch₀ next lent k (i + 1)
       collecting-more next lent k x p l = record {
-        few = omega (arith, m.few, x.most, spec-few op specs r collecting-within);
+        few = omega (arith, m.few, x.most, spec-few op specs r (collecting-within (length specs) group n i size few-specs below q is r tells in_List));
         turn = omega arith;
         room = x.room;
         entries = x.entries;
         whole =
-            rw x.holds
-            (sym (all_append (table_texts specs (take c table)) (expand_prefixes op (spec_meant specs r)) (each (group_meant specs (drop (i + 1) group)) (expand_prefixes op)))
-            ∙ rw (rest-next specs group i below, ← is, ← tells) at m.whole);
+            rw (x.holds, add-one i)
+            (sym (all_append (table_texts specs (take c table)) (expand_prefixes op (spec_meant specs r)) (each (group_meant specs (drop (suc i) (take n group))) (expand_prefixes op)))
+            ∙ rw (table-next group n i q is size few-specs below specs, ← tells) at m.whole);
         kept = p ∙ m.kept;
         lent = l ∙ m.lent;
       }
+
+  -- after the last all is
+  pub collecting-whole : n ≤ i → n ≤ spec_count → Collected op specs (group_meant specs (take n group)) table c
+  collecting-whole h k = record {
+    room = m.room;
+    entries = m.entries;
+    holds = rw (table-end group n i h specs) at m.whole;
+    few = omega (arith, m.few, m.turn);
+  }

@@ -7,7 +7,7 @@ use mathlib.Core.List.{List, [], ◌∷◌}
 use mathlib.Core.Option.{Option, none, some}
 use borrow.Author.Tests.{leb-true}
 use lib.Dec.{leb}
-use lib.ListN.{length, take, length-take}
+use lib.ListN.{length, take}
 use Rattle.meaning.specs.Bytes.{Text}
 use Rattle.meaning.specs.Limits.{spec_list_bytes, spec_count}
 use Rattle.meaning.specs.Spec.{Answer, accepted, refused, Spec}
@@ -77,8 +77,8 @@ module _ (op : ℕ) (specs : Text) (v : Result Group Refused) (r : GroupRead spe
     passed = group-passed specs v (read_specs op specs) r g z
 
     -- an accepted one has at most so many specs
-    pub group-count : length (take g.count g.specs) ≤ spec_count
-    group-count = omega (arith, passed.is.count-within, length-take g.count g.specs)
+    pub group-count : g.count ≤ spec_count
+    group-count = passed.is.count-within
 
     -- whose sides stand within it
     pub group-within : AllWithin (length specs) (take g.count g.specs)

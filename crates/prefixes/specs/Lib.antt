@@ -1,4 +1,4 @@
--- `Distinct`: texts in first-seen order, each once. `Table`: the texts that a table of numbers denotes. `Group`: a call that meets its
+-- `Distinct`: texts in first-seen order, each once. `Table`: the texts that a table of entries denotes. `Group`: a call that meets its
 -- buffer with a group's prefix list.
 pub mod Distinct
 pub mod Table

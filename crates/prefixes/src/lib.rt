@@ -29,6 +29,7 @@ use parse::types::RefSpec;
 use refspec::spec::remote;
 use spec_list::read_specs;
 use spec_list::record::{SpecRecord, spec_from};
+use spec_list::table::spec_of;
 use table::{add, put_table, table_size};
 
 // How many specs, and how many bytes of a spec list, a small table has room for.
@@ -92,20 +93,22 @@ fn add_spec(
     add_yield(specs, table, count, scratch, y)
 }
 
-// Enters the texts that the specs of a group yield; how many there are.
+// Enters the texts that the first n specs of a table yield; how many there are.
 fn collect(
     op: u64,
     specs: &[u8],
-    group: &[SpecRecord],
+    group: &[SpecRecord; SPEC_COUNT],
+    n: usize,
     table: &mut [Entry],
     scratch: &mut [u8],
 ) -> usize
-    requires { (length group.now ≤ spec_count) × AllWithin (length specs.now) group.now × (table_room (length group.now) ≤ length table.old) × (length specs.now + longest_frame ≤ length scratch.old) }
-    ensures { Collected op specs.now (group_meant specs.now group.now) table.new result }
+    requires { (n ≤ spec_count) × AllWithin (length specs.now) (take n group.now) × (table_room n ≤ length table.old) × (length specs.now + longest_frame ≤ length scratch.old) }
+    ensures { Collected op specs.now (group_meant specs.now (take n group.now)) table.new result }
 {
     let mut count = 0;
-    for q in group {
-        count = add_spec(op, specs, spec_from(*q), table, count, scratch);
+    for i in 0..n {
+        let r = spec_from(spec_of(*group, n, i));
+        count = add_spec(op, specs, r, table, count, scratch);
     }
     count
 }
@@ -124,34 +127,41 @@ fn list_table(specs: &[u8], table: &[Entry], out: &mut [u8]) -> Written
     }
 }
 
-// The prefix list of a group that yields at most N texts, none of which has more than M bytes. Not inlined, so that the table of each size
-// is in a frame of its own: in one frame, few specs would take the stack of many.
+// The prefix list of the first n specs of a table, which yield at most N texts, none of which has more than M bytes. Not inlined, so that
+// the table of each size is in a frame of its own: in one frame, few specs would take the stack of many.
 // As it is: (a) there is no heap, so the table and the text that is spelt stand in arrays.
 #[inline(never)]
 fn list_in_room<const N: usize, const M: usize>(
     op: u64,
     specs: &[u8],
-    group: &[SpecRecord],
+    group: &[SpecRecord; SPEC_COUNT],
+    n: usize,
     out: &mut [u8],
 ) -> Written
-    requires { (length group.now ≤ spec_count) × AllWithin (length specs.now) group.now × (length specs.now ≤ spec_list_bytes) × (table_room (length group.now) ≤ N) × (N ≤ texts_most) × (length specs.now + longest_frame ≤ M) × (M ≤ spec_list_bytes + longest_frame) }
-    ensures { MeetsOne (accepted (some (record_bytes (group_texts op (group_meant specs.now group.now))) ∷ [])) out.old out.new result.refusal result.record result.length }
+    requires { (n ≤ spec_count) × AllWithin (length specs.now) (take n group.now) × (length specs.now ≤ spec_list_bytes) × (table_room n ≤ N) × (N ≤ texts_most) × (length specs.now + longest_frame ≤ M) × (M ≤ spec_list_bytes + longest_frame) }
+    ensures { MeetsOne (accepted (some (record_bytes (group_texts op (group_meant specs.now (take n group.now)))) ∷ [])) out.old out.new result.refusal result.record result.length }
 {
     let mut table = [Entry::empty(); N];
     let mut scratch = [0u8; M];
-    let count = collect(op, specs, group, &mut table, &mut scratch);
+    let count = collect(op, specs, group, n, &mut table, &mut scratch);
     list_table(specs, &table[..count], out)
 }
 
-// The prefix list of a group, by a table that has room for its texts.
-fn list_group(op: u64, specs: &[u8], group: &[SpecRecord], out: &mut [u8]) -> Written
-    requires { (length group.now ≤ spec_count) × AllWithin (length specs.now) group.now × (length specs.now ≤ spec_list_bytes) }
-    ensures { MeetsOne (accepted (some (record_bytes (group_texts op (group_meant specs.now group.now))) ∷ [])) out.old out.new result.refusal result.record result.length }
+// The prefix list of the first n specs of a table, by a table that has room for their texts.
+fn list_group(
+    op: u64,
+    specs: &[u8],
+    group: &[SpecRecord; SPEC_COUNT],
+    n: usize,
+    out: &mut [u8],
+) -> Written
+    requires { (n ≤ spec_count) × AllWithin (length specs.now) (take n group.now) × (length specs.now ≤ spec_list_bytes) }
+    ensures { MeetsOne (accepted (some (record_bytes (group_texts op (group_meant specs.now (take n group.now)))) ∷ [])) out.old out.new result.refusal result.record result.length }
 {
-    if group.len() <= FEW && specs.len() <= SHORT {
-        list_in_room::<FEW_TEXTS, SHORT_SCRATCH>(op, specs, group, out)
+    if n <= FEW && specs.len() <= SHORT {
+        list_in_room::<FEW_TEXTS, SHORT_SCRATCH>(op, specs, group, n, out)
     } else {
-        list_in_room::<TEXTS, SCRATCH>(op, specs, group, out)
+        list_in_room::<TEXTS, SCRATCH>(op, specs, group, n, out)
     }
 }
 
@@ -160,7 +170,7 @@ pub fn group_prefixes(op: u64, specs: &[u8], out: &mut [u8]) -> Written
     ensures { MeetsOne (group_prefixes op specs.now) out.old out.new result.refusal result.record result.length }
 {
     match read_specs(op, specs) {
-        Ok(g) => list_group(op, specs, &g.specs[..g.count], out),
+        Ok(g) => list_group(op, specs, &g.specs, g.count, out),
         Err(e) => refused(e.refusal.number(), e.record),
     }
 }

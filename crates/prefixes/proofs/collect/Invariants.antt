@@ -2,5 +2,5 @@
 use Rattle.prefixes.proofs.Adding.{Collecting}
 use Rattle.prefixes.proofs.collect.Given as goal
 
-abbrev pub invariant-loop-q : goal.invariant-loop-q
-invariant-loop-q l = Collecting l.op l.specs l.group l.initial.table l.initial.scratch l.table l.scratch l.count l.q-index
+abbrev pub invariant-loop-i : goal.invariant-loop-i
+invariant-loop-i l = Collecting l.op l.specs l.group l.n l.initial.table l.initial.scratch l.table l.scratch l.count l.i
