@@ -5,7 +5,7 @@ ghost use Rattle.std.specs.Prelude.{◌≡◌, ◌+◌, ◌≤◌, ◌<◌, leng
 ghost use Rattle.recorded.specs.Record.{sized_room};
 
 use std::io::{Read, Write};
-use stdio::read_full;
+use stdio::{read_full, tell};
 
 // Room for a record, and for what is made of it.
 const ROOM: usize = 65536;
@@ -45,9 +45,15 @@ impl Tally {
     }
 }
 
+// Prints a number, and words after it: two writes, of which the second is tried where the first fails.
+fn say_count<W: Write>(to: &mut W, n: u64, words: &str) {
+    let _ = write!(to, "{n}");
+    tell(to, words.as_bytes());
+}
+
 // What recorded answers are about.
 pub trait Recorded {
-    // The word for one of them.
+    // The word for one of them, with a space after it.
     fn one(&self) -> &'static str;
 
     // The recorded answer is ours.
@@ -59,17 +65,20 @@ pub trait Recorded {
 }
 
 // Answers to specs.
+#[derive(Clone, Copy)]
 pub struct Specs;
 
 // Answers to groups.
+#[derive(Clone, Copy)]
 pub struct Groups;
 
 // Reports on two specs.
+#[derive(Clone, Copy)]
 pub struct Pairs;
 
 impl Recorded for Specs {
     fn one(&self) -> &'static str {
-        "answer"
+        "answer "
     }
 
     fn agrees(&self, record: &[u8], scratch: &mut [u8]) -> bool {
@@ -77,13 +86,14 @@ impl Recorded for Specs {
     }
 
     fn say<W: Write>(&self, to: &mut W, t: Tally) {
-        let _ = writeln!(to, "{} answers, {} differ", t.read, t.differ);
+        say_count(to, t.read, " answers, ");
+        say_count(to, t.differ, " differ\n");
     }
 }
 
 impl Recorded for Groups {
     fn one(&self) -> &'static str {
-        "group"
+        "group "
     }
 
     fn agrees(&self, record: &[u8], scratch: &mut [u8]) -> bool {
@@ -91,13 +101,14 @@ impl Recorded for Groups {
     }
 
     fn say<W: Write>(&self, to: &mut W, t: Tally) {
-        let _ = writeln!(to, "{} groups, {} agree", t.read, t.read - t.differ);
+        say_count(to, t.read, " groups, ");
+        say_count(to, t.read - t.differ, " agree\n");
     }
 }
 
 impl Recorded for Pairs {
     fn one(&self) -> &'static str {
-        "pair"
+        "pair "
     }
 
     fn agrees(&self, record: &[u8], scratch: &mut [u8]) -> bool {
@@ -105,7 +116,8 @@ impl Recorded for Pairs {
     }
 
     fn say<W: Write>(&self, to: &mut W, t: Tally) {
-        let _ = writeln!(to, "{} pairs, {} agree", t.read, t.read - t.differ);
+        say_count(to, t.read, " pairs, ");
+        say_count(to, t.read - t.differ, " agree\n");
     }
 }
 
@@ -146,7 +158,8 @@ fn next<R: Read, K: Recorded>(from: &mut R, kind: &K) -> Result<Option<bool>, Cu
 // Names the next answer, which differs, unless enough have been named.
 fn name<W: Write, K: Recorded>(to: &mut W, kind: &K, t: Tally, words: &str) {
     if t.differ < NAMED {
-        let _ = writeln!(to, "{} {} {words}", kind.one(), t.read);
+        tell(to, kind.one().as_bytes());
+        say_count(to, t.read, words);
     }
 }
 
@@ -158,11 +171,11 @@ fn replayed<R: Read, W: Write, K: Recorded>(from: &mut R, to: &mut W, kind: &K) 
             Ok(None) => return t,
             Ok(Some(true)) => t = t.agreeing(),
             Ok(Some(false)) => {
-                name(to, kind, t, "differs");
+                name(to, kind, t, " differs\n");
                 t = t.differing();
             },
             Err(CutShort) => {
-                name(to, kind, t, "is cut short");
+                name(to, kind, t, " is cut short\n");
                 return t.differing();
             },
         }

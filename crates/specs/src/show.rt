@@ -13,21 +13,21 @@ use stdio::say;
 use text_program::output::{say_line, say_text};
 use write::to_bstring;
 
-// Prints a text after its name, as a line.
-fn show_field<W: Write>(to: &mut W, name: &str, t: &[u8]) -> io::Result<()> {
-    write!(to, "  {name:<13}")?;
+// Prints a text after its name, as a line. The name comes with the spaces around it, so that it is one write.
+fn show_field<W: Write>(to: &mut W, name: &[u8], t: &[u8]) -> io::Result<()> {
+    say(to, name)?;
     say_text(to, t)?;
     say(to, b"\n")
 }
 
 // Begins the block of a spec.
 fn show_head<W: Write>(to: &mut W, what: &str, force: bool) -> io::Result<()> {
-    let forced = if force { ", forced" } else { "" };
-    writeln!(to, "{what}{forced}")
+    let end = if force { ", forced\n" } else { "\n" };
+    write!(to, "{what}{end}")
 }
 
 // Prints a side; an absent one is passed over.
-fn show_side<W: Write>(to: &mut W, name: &str, spec: &[u8], side: Side) -> io::Result<()> {
+fn show_side<W: Write>(to: &mut W, name: &[u8], spec: &[u8], side: Side) -> io::Result<()> {
     match side {
         Side::Absent => Ok(()),
         Side::Part(at, n) => match spec.get(at..).and_then(|t| t.get(..n)) {
@@ -48,8 +48,8 @@ fn show_sides<W: Write>(
     dst: Side,
 ) -> io::Result<()> {
     show_head(to, what, force)?;
-    show_side(to, "source", spec, src)?;
-    show_side(to, "destination", spec, dst)
+    show_side(to, b"  source       ", spec, src)?;
+    show_side(to, b"  destination  ", spec, dst)
 }
 
 // Prints an instruction.
@@ -103,7 +103,7 @@ fn show_text<W: Write>(to: &mut W, spec: Spec) -> io::Result<()> {
     let w = to_bstring(spec.op, spec.text, &mut out);
     // As it is: (d) a number of 64 bits has no From to `usize`, and `try_from` may fail.
     match out.get(..w.length as usize) {
-        Some(t) => show_field(to, "text", t),
+        Some(t) => show_field(to, b"  text         ", t),
         None => Ok(()),
     }
 }
@@ -111,7 +111,7 @@ fn show_text<W: Write>(to: &mut W, spec: Spec) -> io::Result<()> {
 // Prints the prefix of a spec, if it has one.
 fn show_prefix<W: Write>(to: &mut W, spec: Spec) -> io::Result<()> {
     match prefix(spec.op, spec.text) {
-        Ok(side) => show_side(to, "prefix", spec.text, side),
+        Ok(side) => show_side(to, b"  prefix       ", spec.text, side),
         Err(_) => Ok(()),
     }
 }

@@ -49,8 +49,8 @@ pub fn say<W: Write>(to: &mut W, t: &[u8]) -> io::Result<()>
     to.write_all(t)
 }
 
-// What is told where the input cannot be read.
-pub const UNREAD: &str = "standard input cannot be read";
+// The line that is told where the input cannot be read.
+pub const UNREAD: &str = "standard input cannot be read\n";
 
 // Writes words for people. Nobody can be told that this failed.
 pub fn tell<W: Write>(to: &mut W, words: &[u8]) {
@@ -59,7 +59,7 @@ pub fn tell<W: Write>(to: &mut W, words: &[u8]) {
 
 // Tells that the input could not be read.
 pub fn tell_unread<W: Write>(to: &mut W) {
-    let _ = writeln!(to, "{UNREAD}");
+    tell(to, UNREAD.as_bytes());
 }
 
 // Tells that the output was not written to its end.

@@ -26,11 +26,12 @@ pub enum TextError {
     TooLong,
 }
 
+// The line that is told.
 impl fmt::Display for TextError {
     fn fmt<W: fmt::Write>(&self, f: &mut fmt::Formatter<W>) -> fmt::Result {
         f.write_str(match self {
             TextError::Unread => UNREAD,
-            TextError::TooLong => "the input is above 65,536 bytes",
+            TextError::TooLong => "the input is above 65,536 bytes\n",
         })
     }
 }
@@ -59,7 +60,7 @@ pub fn read_text<R: Read, E: Write>(
     ensures end { IfOk result (λ n. n < length buffer.new → IsAtEnd (R.remaining from.new)) }
 {
     read_within(from, buffer).inspect_err(|e| {
-        let _ = writeln!(errors, "{e}");
+        let _ = write!(errors, "{e}");
     })
 }
 

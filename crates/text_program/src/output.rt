@@ -4,7 +4,7 @@ ghost use Rattle.print.specs.Lines.{coded};
 ghost use Rattle.stdio.specs.Streams.{Says};
 ghost use Rattle.text_program.specs.Output.{in_print, needs_code, line_named};
 
-use print::shown::is_plain;
+use print::shown::{capital_digit, is_plain};
 use std::io;
 use std::io::Write;
 use stdio::say;
@@ -16,11 +16,12 @@ fn first_coded(t: &[u8]) -> Option<usize>
     t.iter().position(|b| !is_plain(*b))
 }
 
-// Prints one byte as `%` and two capital hexadecimal digits.
+// Prints one byte as `%` and two capital hexadecimal digits, in one write.
+#[tactic(auto, unfolding(print::specs::Lines::coded))]
 fn say_coded<W: Write>(to: &mut W, b: u8) -> io::Result<()>
     ensures { Says result (W.contents to.old) (W.contents to.new) (coded b) }
 {
-    write!(to, "%{b:02X}")
+    say(to, &[b'%', capital_digit(b / 16), capital_digit(b % 16)])
 }
 
 // Prints a text: bytes that are printed as they are in one go, and each other one in between.
