@@ -125,6 +125,12 @@ impl Recorded for Pairs {
 #[derive(Clone, Copy)]
 struct CutShort;
 
+// The record is ours, by what is made of it in room of its own. A function that reads would clear that room twice.
+fn agrees<K: Recorded>(kind: &K, record: &[u8]) -> bool {
+    let mut scratch = [0u8; ROOM];
+    kind.agrees(record, &mut scratch)
+}
+
 // Reads a record that fills the buffer, and says whether it is ours.
 fn compare_in<R: Read, K: Recorded>(
     from: &mut R,
@@ -134,8 +140,7 @@ fn compare_in<R: Read, K: Recorded>(
     if read_full(from, buffer).0 < buffer.len() {
         return Err(CutShort);
     }
-    let mut scratch = [0u8; ROOM];
-    Ok(kind.agrees(buffer, &mut scratch))
+    Ok(agrees(kind, buffer))
 }
 
 // Reads a record of n bytes, and says whether it is ours.
