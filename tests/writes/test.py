@@ -19,6 +19,7 @@ TOLD = b"standard output cannot be written\n"
 def run(program, text):
     """What arrives, write by write, and what is told."""
     ours, theirs = socket.socketpair(socket.AF_UNIX, socket.SOCK_SEQPACKET)
+    ours.settimeout(20)
     theirs.setsockopt(socket.SOL_SOCKET, socket.SO_SNDBUF, 1)
     command = [PROGRAMS / program / "out" / program]
     with subprocess.Popen(command, stdin=subprocess.PIPE, stdout=theirs, stderr=subprocess.PIPE) as process:
@@ -39,7 +40,7 @@ def expect(program, text, printed):
     assert told == TOLD, f"{program}: {told} is told"
 
 
-# The largest message is above any other text here, and below this one.
+# A side, of 4,011 bytes, passes. The text of both sides, and the destination that two specs share, do not.
 long = b"a" * 4000
 name = b"refs/heads/" + long
 fields = b"line 1: push\n  source       " + name + b"\n  destination  " + name + b"\n  text         "
