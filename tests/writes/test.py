@@ -7,7 +7,6 @@ Standard output is a socket whose messages have a limit, so that a write of a lo
 after it would pass. What arrives has to be what stands before that text, and standard error has to tell the failure.
 """
 
-import os
 import socket
 import subprocess
 from pathlib import Path
@@ -27,8 +26,12 @@ def run(program, text):
         process.stdin.write(text)
         process.stdin.close()
         pieces = []
-        while piece := ours.recv(1 << 16):
-            pieces.append(piece)
+        try:
+            while piece := ours.recv(1 << 16):
+                pieces.append(piece)
+        except TimeoutError:
+            process.kill()
+            raise
         told = process.stderr.read()
     ours.close()
     return pieces, told
